@@ -1,0 +1,62 @@
+ghost use Rattle.std.specs.Prelude.{◌≡◌, ◌+◌, ◌≤◌, ◌++◌, ℕ, List, length, take, OnOk, OnErr, IfSome, IfNone};
+ghost use Rattle.px_frame.specs.Frame.{CanFrame, FrameAt, frame};
+
+use crate::header::Header;
+use px_bytes::{fnv, fnv_on, put_u32, put_u64};
+use std::alloc::AllocError;
+
+/// The bytes in front of a payload: length, sum and number.
+pub const HEADER_SIZE: usize = 16;
+
+/// Frames have the numbers below this one.
+pub const NUMBER_LIMIT: u64 = 1 << 48;
+
+/// The bytes of the shortest payload: a change with no cells.
+pub const SHORTEST_PAYLOAD: usize = 18;
+
+/// The bytes of the longest payload.
+pub const LONGEST_PAYLOAD: usize = 8192;
+
+/// Appends the frame of the payload with that number. Without memory for it `out` stays as it was.
+pub fn write_frame(out: &mut Vec<u8>, number: u64, payload: &[u8]) -> Result<(), AllocError>
+    requires { CanFrame number payload.now }
+    ensures ok { OnOk result (out.new.items ≡ out.old.items ++ frame number payload.now) }
+    ensures err { OnErr result (out.new.items ≡ out.old.items) }
+{
+    let before = out.len();
+    let appended = append_frame(out, number, payload);
+    if appended.is_err() {
+        out.truncate(before);
+    }
+    appended
+}
+
+/// The same, but without memory a part of the frame may stay.
+#[tactic(auto, unfolding(crate::specs::Frame::frame))]
+fn append_frame(out: &mut Vec<u8>, number: u64, payload: &[u8]) -> Result<(), AllocError>
+    requires { length payload.now ≤ LONGEST_PAYLOAD }
+    ensures ok { OnOk result (out.new.items ≡ out.old.items ++ frame number payload.now) }
+    ensures err { OnErr result (take (length out.old.items) out.new.items ≡ out.old.items) }
+{
+    put_u32(out, payload.len() as u32)?;
+    put_u32(out, fnv_on(fnv(&number.to_be_bytes()), payload))?;
+    put_u64(out, number)?;
+    out.extend_from_slice(payload)
+}
+
+/// The payload of the frame that checks at the front of the bytes for that number, and the size of the
+/// whole frame in bytes. More may follow it. None where no frame checks there: the bytes end too soon,
+/// the length is out of its range, or the number or the sum is another.
+pub fn read_frame(bytes: &[u8], number: u64) -> Option<(&[u8], usize)>
+    ensures found { IfSome result (λ read. FrameAt bytes.now number read.0.now) }
+    ensures size { IfSome result (λ read. read.1 ≡ HEADER_SIZE + length read.0.now) }
+    ensures within { IfSome result (λ read. read.1 ≤ length bytes.now) }
+    ensures none { IfNone result ((payload : List ℕ) → ¬ FrameAt bytes.now number payload) }
+{
+    let header = Header::read(bytes)?;
+    if !header.checks(bytes, number) {
+        return None;
+    }
+    let size = HEADER_SIZE + header.length as usize;
+    Some((&bytes[HEADER_SIZE..size], size))
+}
