@@ -1,0 +1,9 @@
+pub mod Calls
+pub mod Changes
+pub mod Crash
+pub mod Disk
+pub mod Events
+pub mod Failures
+pub mod Files
+pub mod Moments
+pub mod Sound

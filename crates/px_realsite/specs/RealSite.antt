@@ -1,0 +1,15 @@
+-- What a real site shows of itself.
+use Rattle.std.specs.Prelude.{◌≡◌, true, false}
+use Rattle.px_site.specs.Cause.{Counts}
+use Rattle.px_site.specs.Tally.{counts_of}
+use Rattle.px_realsite.specs.declared.real_site.RealSite.{RealSite}
+
+-- how many calls answered each error
+abbrev pub counted : {R : Type 0} → RealSite R → Counts
+counted site = counts_of site.tally
+
+-- the names that came and went in the folder are durable, and its own in the one above; and no sync ever failed
+pub record HasDurableNames {R : Type 0} (site : RealSite R) : Type 0 where
+  pub names : site.folder.names_synced ≡ true
+  pub folder : site.folder.folder_synced ≡ true
+  pub none_failed : site.folder.sync_failed ≡ false

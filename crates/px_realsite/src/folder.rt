@@ -1,0 +1,301 @@
+//! The folder of a site. It answers the system's errors as they are; what they count as is said in `real_site`.
+ghost use Rattle.std.specs.Prelude.{◌≡◌, ◌<◌, ◌≤◌, ◌+◌, length, vec_len, IfOk, IfSome, OnOk, None, true, false, ◌||◌, is_err, IsErr};
+ghost use Rattle.px_site.specs.State.{IsListed};
+ghost use Rattle.px_realsite.specs.Failure.{KeepsFailure};
+ghost use Rattle.px_realsite.specs.OpenFiles.{IsNamed};
+
+use crate::open_files::{MOST_OPEN, OpenFiles};
+use crate::path::path_of;
+use crate::walk::Walk;
+use px_site::{FileName, LONGEST_FILE};
+use std::alloc::{AllocError, Global};
+use std::fs::{self, File, OpenOptions};
+use std::io::{self, ErrorKind};
+use std::rt::Files;
+
+/// A folder of files. It is made by the first write; until then it may be missing, and then it reads as an empty one.
+#[derive(Drop)]
+pub(crate) struct Folder {
+    path: String,
+    handles: OpenFiles,
+    walk: Option<Walk>,
+    /// Whether each name that came or went is durable. At the start it isn't known: an earlier process may have left one.
+    names_synced: bool,
+    /// Whether the folder's own name is durable in the folder above it. At the start it isn't known either.
+    folder_synced: bool,
+    /// Whether a sync failed. From then on no sync is answered as done: the system drops what it couldn't write, and a later
+    /// sync would pass over it.
+    sync_failed: bool,
+}
+
+impl Folder {
+    pub(crate) fn new(alloc: Global, path: &str) -> Result<Folder, AllocError>
+        ensures names { IfOk result (λ folder. folder.names_synced ≡ false) }
+        ensures folder { IfOk result (λ folder. folder.folder_synced ≡ false) }
+    {
+        let path = if path.is_empty() { "." } else { path };
+        Ok(Folder {
+            path: String::from_str(alloc, path)?,
+            handles: OpenFiles::new(alloc)?,
+            walk: None,
+            names_synced: false,
+            folder_synced: false,
+            sync_failed: false,
+        })
+    }
+
+    pub(crate) fn len<R: Files<File = File> + AllocGlobal>(
+        &mut self,
+        rt: &R,
+        name: FileName,
+    ) -> io::Result<u64>
+        ensures bound { IfOk result (λ len. len ≤ LONGEST_FILE) }
+        ensures remembered { KeepsFailure self.old.sync_failed self.new.sync_failed }
+    {
+        match self.find(rt, name)? {
+            Some(at) => self.handles.files[at].len(),
+            None => Ok(0),
+        }
+    }
+
+    pub(crate) fn read_at<R: Files<File = File> + AllocGlobal>(
+        &mut self,
+        rt: &R,
+        name: FileName,
+        place: u64,
+        buf: &mut [u8],
+    ) -> io::Result<usize>
+        ensures bound { IfOk result (λ count. count ≤ length buf.new) }
+        ensures remembered { KeepsFailure self.old.sync_failed self.new.sync_failed }
+    {
+        if place >= LONGEST_FILE {
+            return Ok(0);
+        }
+        match self.find(rt, name)? {
+            Some(at) => self.handles.files[at].read_at(place, buf),
+            None => Ok(0),
+        }
+    }
+
+    pub(crate) fn write_at<R: Files<File = File> + AllocGlobal>(
+        &mut self,
+        rt: &R,
+        name: FileName,
+        place: u64,
+        bytes: &[u8],
+    ) -> io::Result<()>
+        requires { place + length bytes.now ≤ LONGEST_FILE }
+        ensures remembered { KeepsFailure self.old.sync_failed self.new.sync_failed }
+    {
+        let at = match self.find(rt, name)? {
+            Some(at) => at,
+            None => self.make(rt, name)?,
+        };
+        self.handles.files[at].write_at(place, bytes)
+    }
+
+    pub(crate) fn cut<R: Files<File = File> + AllocGlobal>(
+        &mut self,
+        rt: &R,
+        name: FileName,
+        len: u64,
+    ) -> io::Result<()>
+        ensures remembered { KeepsFailure self.old.sync_failed self.new.sync_failed }
+    {
+        match self.find(rt, name)? {
+            Some(at) => self.handles.files[at].cut(len),
+            None => Ok(()),
+        }
+    }
+
+    /// Makes the file durable, and with it the names of the folder. Once a sync failed, it answers an error for ever.
+    pub(crate) fn sync<R: Files<File = File> + AllocGlobal>(
+        &mut self,
+        rt: &R,
+        name: FileName,
+    ) -> io::Result<()>
+        ensures names { OnOk result (self.new.names_synced ≡ true) }
+        ensures folder { OnOk result (self.new.folder_synced ≡ true) }
+        ensures none_failed { OnOk result (self.new.sync_failed ≡ false) }
+        ensures refused { self.old.sync_failed ≡ true → IsErr result }
+        ensures remembered { KeepsFailure self.old.sync_failed self.new.sync_failed }
+    {
+        self.sync_file(rt, name)?;
+        self.sync_names(rt)?;
+        if self.sync_failed {
+            return Err(ErrorKind::Other.into());
+        }
+        Ok(())
+    }
+
+    fn sync_file<R: Files<File = File> + AllocGlobal>(
+        &mut self,
+        rt: &R,
+        name: FileName,
+    ) -> io::Result<()>
+        ensures remembered { KeepsFailure self.old.sync_failed self.new.sync_failed }
+    {
+        match self.find(rt, name)? {
+            Some(at) => {
+                let synced = self.handles.files[at].sync();
+                self.note(synced)
+            }
+            None => Ok(()),
+        }
+    }
+
+    /// Makes the names durable that came and went: those in the folder, and the folder's own in the one above.
+    fn sync_names<R: Files<File = File> + AllocGlobal>(&mut self, rt: &R) -> io::Result<()>
+        ensures names { OnOk result (self.new.names_synced ≡ true) }
+        ensures folder { OnOk result (self.new.folder_synced ≡ true) }
+        ensures remembered { KeepsFailure self.old.sync_failed self.new.sync_failed }
+    {
+        if !self.names_synced {
+            self.sync_folder(rt, ".")?;
+            self.names_synced = true;
+        }
+        if !self.folder_synced {
+            self.sync_folder(rt, "..")?;
+            self.folder_synced = true;
+        }
+        Ok(())
+    }
+
+    /// Syncs the folder to which this step leads. Where this folder isn't there, it has no names to sync.
+    fn sync_folder<R: Files<File = File> + AllocGlobal>(
+        &mut self,
+        rt: &R,
+        step: &str,
+    ) -> io::Result<()>
+        ensures names { self.new.names_synced ≡ self.old.names_synced }
+        ensures remembered { KeepsFailure self.old.sync_failed self.new.sync_failed }
+    {
+        let path = format!(in rt.alloc(); "{}/{step}", self.path.as_str())?;
+        match File::open(rt, path.as_str()) {
+            Ok(folder) => self.note(folder.sync_all()),
+            Err(error) if error.kind() == ErrorKind::NotFound && self.handles.is_empty() => Ok(()),
+            Err(error) => Err(error),
+        }
+    }
+
+    /// Takes the file's name away, which leaves it empty: whoever opens it then finds no file.
+    pub(crate) fn remove<R: Files<File = File> + AllocGlobal>(
+        &mut self,
+        rt: &R,
+        name: FileName,
+    ) -> io::Result<()>
+        ensures remembered { KeepsFailure self.old.sync_failed self.new.sync_failed }
+    {
+        let path = path_of(rt.alloc(), self.path.as_str(), name)?;
+        match fs::remove_file(rt, path.as_str()) {
+            Ok(()) => self.names_synced = false,
+            Err(error) if error.kind() == ErrorKind::NotFound => {}
+            Err(error) => return Err(error),
+        }
+        self.handles.forget(name);
+        Ok(())
+    }
+
+    /// The least name after this one whose file has a byte. A listing that goes on from name to name reads the folder once.
+    pub(crate) fn list<R: Files + AllocGlobal + Clone + Drop>(
+        &mut self,
+        rt: &R,
+        after: Option<FileName>,
+    ) -> io::Result<Option<FileName>>
+        ensures bound { IfOk result (λ found. IfSome found (IsListed after)) }
+        ensures remembered { KeepsFailure self.old.sync_failed self.new.sync_failed }
+    {
+        let mut walk = match self.walk.take() {
+            Some(walk) if walk.goes_on_after(after) => walk,
+            _ => Walk::read(rt, self.path.as_str())?,
+        };
+        let found = walk.next(rt, self.path.as_str(), after)?;
+        if found.is_some() {
+            self.walk = Some(walk);
+        }
+        Ok(found)
+    }
+
+    /// Where the file stands among those that are open. It is opened if it wasn't, and not made.
+    fn find<R: Files<File = File> + AllocGlobal>(
+        &mut self,
+        rt: &R,
+        name: FileName,
+    ) -> io::Result<Option<usize>>
+        ensures within { IfOk result (λ found. IfSome found (λ at. at < vec_len self.new.handles.files)) }
+        ensures named { IfOk result (λ found. IfSome found (IsNamed self.new.handles.files.items name)) }
+        ensures remembered { KeepsFailure self.old.sync_failed self.new.sync_failed }
+    {
+        if let Some(at) = self.handles.position(name) {
+            return Ok(Some(at));
+        }
+        let path = path_of(rt.alloc(), self.path.as_str(), name)?;
+        self.make_room();
+        match OpenOptions::new()
+            .read(true)
+            .write(true)
+            .open(rt, path.as_str())
+        {
+            Ok(handle) => Ok(Some(self.handles.add(name, handle))),
+            Err(error) if error.kind() == ErrorKind::NotFound => Ok(None),
+            Err(error) => Err(error),
+        }
+    }
+
+    /// Makes the file, and the folder where that isn't there, and answers where the file stands.
+    fn make<R: Files<File = File> + AllocGlobal>(
+        &mut self,
+        rt: &R,
+        name: FileName,
+    ) -> io::Result<usize>
+        ensures within { IfOk result (λ at. at < vec_len self.new.handles.files) }
+        ensures named { IfOk result (IsNamed self.new.handles.files.items name) }
+        ensures unsynced { OnOk result (self.new.names_synced ≡ false) }
+        ensures no_walk { OnOk result (self.new.walk ≡ None) }
+        ensures remembered { KeepsFailure self.old.sync_failed self.new.sync_failed }
+    {
+        let path = path_of(rt.alloc(), self.path.as_str(), name)?;
+        self.walk = None;
+        self.names_synced = false;
+        self.make_room();
+        let handle = match create(rt, path.as_str()) {
+            Err(error) if error.kind() == ErrorKind::NotFound => {
+                self.folder_synced = false;
+                fs::create_dir(rt, self.path.as_str())?;
+                create(rt, path.as_str())?
+            }
+            created => created?,
+        };
+        Ok(self.handles.add(name, handle))
+    }
+
+    /// Closes a file where no other may be opened.
+    fn make_room(&mut self)
+        ensures room { vec_len self.new.handles.files < MOST_OPEN }
+        ensures names { self.new.names_synced ≡ self.old.names_synced }
+        ensures walk { self.new.walk ≡ self.old.walk }
+        ensures remembered { KeepsFailure self.old.sync_failed self.new.sync_failed }
+    {
+        let closed = self.handles.make_room();
+        self.sync_failed = self.sync_failed || closed.is_err();
+    }
+
+    /// Passes on what a sync answered, and remembers that one failed.
+    fn note(&mut self, synced: io::Result<()>) -> io::Result<()>
+        ensures value { result ≡ synced }
+        ensures noted { self.new.sync_failed ≡ (self.old.sync_failed || is_err synced) }
+        ensures names { self.new.names_synced ≡ self.old.names_synced }
+    {
+        self.sync_failed = self.sync_failed || synced.is_err();
+        synced
+    }
+}
+
+/// Opens the file, and makes it where it isn't there.
+fn create<R: Files>(rt: &R, path: &str) -> io::Result<R::File> {
+    OpenOptions::new()
+        .read(true)
+        .write(true)
+        .create(true)
+        .open(rt, path)
+}

@@ -1,0 +1,89 @@
+//! The files that are open.
+ghost use Rattle.std.specs.Prelude.{◌≤◌, ◌<◌, ℕ, length, vec_len, IfSome, IfNone};
+ghost use Rattle.std.specs.Vec.{vec_capacity};
+ghost use Rattle.px_realsite.specs.OpenFiles.{IsNamed};
+ghost use Rattle.px_realsite.specs.declared.open_files.TheConstants.{MOST_OPEN};
+
+use crate::open_file::OpenFile;
+use px_site::FileName;
+use std::alloc::{AllocError, Global};
+use std::fs::File;
+use std::io;
+
+/// The most files that are open at once. A process may have 1,024 by default.
+pub(crate) const MOST_OPEN: usize = 64;
+
+/// The files that are open, in the order of their last use, the latest at the end. It takes its memory when it is made.
+#[derive(Drop)]
+pub(crate) struct OpenFiles {
+    pub(crate) files: Vec<OpenFile>,
+    ghost few: { vec_len files ≤ MOST_OPEN },
+    ghost room: { MOST_OPEN ≤ vec_capacity files },
+}
+
+impl OpenFiles {
+    pub(crate) fn new(alloc: Global) -> Result<OpenFiles, AllocError> {
+        Ok(OpenFiles {
+            files: Vec::with_capacity(alloc, MOST_OPEN)?,
+        })
+    }
+
+    pub(crate) fn is_empty(&self) -> bool {
+        self.files.is_empty()
+    }
+
+    /// Where the file stands, if it is open. This is a use of it.
+    pub(crate) fn position(&mut self, name: FileName) -> Option<usize>
+        ensures within { IfSome result (λ at. at < vec_len self.new.files) }
+        ensures named { IfSome result (IsNamed self.new.files.items name) }
+    {
+        let at = place_of(&self.files, name)?;
+        let file = self.files.remove(at);
+        self.files.push_reserved(file);
+        Some(self.files.len() - 1)
+    }
+
+    /// Closes the file whose last use is the longest ago, where no other may be opened.
+    ///
+    /// What was written to it is made durable first: once a file is closed, the system may forget that writing it back failed.
+    pub(crate) fn make_room(&mut self) -> io::Result<()>
+        ensures room { vec_len self.new.files < MOST_OPEN }
+    {
+        if self.files.len() < MOST_OPEN {
+            return Ok(());
+        }
+        self.files.remove(0).close()
+    }
+
+    /// Takes a file that was opened, and answers where it stands.
+    pub(crate) fn add(&mut self, name: FileName, handle: File) -> usize
+        requires { vec_len self.old.files < MOST_OPEN }
+        ensures within { result < vec_len self.new.files }
+        ensures named { IsNamed self.new.files.items name result }
+    {
+        let at = self.files.len();
+        self.files.push_reserved(OpenFile::new(name, handle));
+        at
+    }
+
+    /// Closes the file without a sync, since it has no name any more.
+    pub(crate) fn forget(&mut self, name: FileName) {
+        self.files.retain(|file| !file.name.is_same(name));
+    }
+}
+
+/// Where the file stands, sought from the latest use on.
+fn place_of(files: &[OpenFile], name: FileName) -> Option<usize>
+    ensures within { IfSome result (λ at. at < length files.now) }
+    ensures named { IfSome result (IsNamed files.now name) }
+    ensures absent { IfNone result ((k : ℕ) → k < length files.now → ¬ IsNamed files.now name k) }
+{
+    let mut at = files.len();
+    while at > 0 {
+        at -= 1;
+        if files[at].name.is_same(name) {
+            return Some(at);
+        }
+    }
+    None
+}

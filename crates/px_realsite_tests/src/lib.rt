@@ -1,0 +1,20 @@
+//! Tests of what no contract says: that `RealSite` does to a real folder what the disk model says, and what sources give.
+//!
+//! Each test has a folder of its own name in the folder where it is run, and removes it.
+//!
+//! - `contents`: files as they are written, cut, removed and found again
+//! - `listings`: which names are listed, and a listing while files come and go
+//! - `faults`: which kind of fault each call answers
+//! - `sources`: sources in memory, call by call
+#![tactic(auto)]
+
+#[cfg(test)]
+mod contents;
+#[cfg(test)]
+mod faults;
+#[cfg(test)]
+mod folders;
+#[cfg(test)]
+mod listings;
+#[cfg(test)]
+mod sources;

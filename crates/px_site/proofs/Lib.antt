@@ -1,0 +1,5 @@
+pub mod Causes
+pub mod Files
+pub mod Images
+pub mod Moments
+pub mod Names

@@ -1,0 +1,16 @@
+//! The input of a run: a source of bytes that may fail at any read, and counts when it does.
+//!
+//! `Source` is the trait that scripts are read by. Its contract has the bytes that are left, where the source tells
+//! them, and how many reads failed. `MemSource` has its bytes in memory and fails where it is told to; `StdinSource`
+//! stands over standard input and tells no bytes.
+//!
+//! specs/: `Source` (what a read does, and when it may fail), `Memory` (a source in memory).
+#![tactic(auto)]
+
+mod mem_source;
+mod source;
+mod stdin_source;
+
+pub use mem_source::MemSource;
+pub use source::{Source, SourceFault};
+pub use stdin_source::StdinSource;
