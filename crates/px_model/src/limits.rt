@@ -1,0 +1,22 @@
+// The limits that the refusals of calls speak of.
+
+/// How many sessions a store has.
+pub const SESSIONS: u8 = 16;
+
+/// The longest key, in bytes; the shortest has one byte.
+pub const LONGEST_KEY: usize = 64;
+
+/// How many writes a transaction may have.
+pub const MOST_WRITES: usize = 10_000;
+
+/// How many rows a transaction may keep by tickets.
+pub const MOST_TICKETS: usize = 4;
+
+/// How many transactions may begin between an opening and the next.
+pub const MOST_BEGINS: u64 = 4_294_967_295;
+
+/// The stored numbers of transactions are below this one.
+pub const STORED_NUMBERS_END: u64 = 4_611_686_018_427_387_904;
+
+/// How many variations a table may have: its slots have numbers from 1 to this one.
+pub const MOST_VARIATIONS: u32 = 4_294_967_295;

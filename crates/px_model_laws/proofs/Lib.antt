@@ -1,0 +1,5 @@
+pub mod BaseRows
+pub mod Counting
+pub mod Cut
+pub mod Laws
+pub mod RowsAsMap
