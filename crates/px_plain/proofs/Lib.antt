@@ -1,0 +1,11 @@
+pub mod EveryHistory
+pub mod Legality
+pub mod Limits
+pub mod Overlap
+pub mod Publishing
+pub mod ReadingCalls
+pub mod Room
+pub mod RowSteps
+pub mod Running
+pub mod Sweeping
+pub mod Unwriting

@@ -1,0 +1,126 @@
+ghost use Rattle.std.specs.Prelude.{◌≡◌, ◌<◌, ◌^◌, IfOk};
+ghost use Rattle.std.specs.Bool.{OnTrue};
+ghost use Rattle.std.specs.Option.{option_copied};
+ghost use Rattle.px_model.specs.Machine.{fresh, view};
+ghost use Rattle.px_calls.specs.Steps.{open_of, has_table, fits_key};
+
+mod beginning;
+mod conflicts;
+mod counts;
+mod ending;
+mod reading;
+mod runs;
+mod sweeping;
+mod writing;
+
+use crate::rows::{apply, apply_committed, copy_rows};
+use crate::slices::first_items;
+use px_model::{Ended, LONGEST_KEY, Open, Row, RowList, SESSIONS, Session};
+use std::alloc::{AllocError, Global};
+use std::marker::Model;
+
+/// The machine. Contracts see it whole.
+///
+/// There is room among the ended transactions for each open one, so that an end takes no memory.
+#[derive(Drop)]
+pub struct Plain {
+    /// How many tables there are, and how long a body a slot holds.
+    tables: u8,
+    short: u32,
+    /// The rows at the opening, in order of key, and how many commits led to them.
+    opening: Vec<Row>,
+    before: u64,
+    /// The last stored number that was given out before the opening.
+    base: u64,
+    /// The transactions that ended with writes, in the order in which they ended.
+    ended: Vec<Ended>,
+    /// For each session its open transaction.
+    active: Vec<Option<Open>>,
+    /// How many transactions have begun, and how many writes the sweeper has passed.
+    begun: u64,
+    swept: u64,
+}
+
+impl Model for Plain {
+    ghost use Rattle.std.specs.Prelude.{◌≡◌, ◌+◌, ◌<◌, ◌≤◌, ◌^◌, length, count_by, is_some, vec_len};
+    ghost use Rattle.std.specs.Vec.{vec_capacity};
+    ghost use Rattle.px_model.specs.declared.limits.TheConstants.{SESSIONS};
+    ghost use Rattle.px_model.specs.Machine.{Machine};
+
+    ghost Value = { Machine };
+
+    ghost view = { λ a. record { tables = a.tables; short = a.short; opening = a.opening.items; before = a.before; base = a.base; ended = a.ended.items; active = a.active.items; begun = a.begun; swept = a.swept } };
+
+    ghost invariant = { λ a. (length a.active.items ≡ SESSIONS) × (a.begun < 2 ^ 32) × (a.base + a.begun < 2 ^ 62) × (a.before < 2 ^ 62) × (vec_len a.ended + count_by is_some a.active.items ≤ vec_capacity a.ended) };
+}
+
+impl Plain {
+    /// A store of so many tables, whose slots hold bodies of up to `short` bytes. It has the rows
+    /// `opening` after `before` commits, and its first transaction has the stored number `base + 1`.
+    #[tactic(auto, unfolding(px_model::specs::Machine::fresh))]
+    pub fn new(
+        alloc: Global,
+        tables: u8,
+        short: u32,
+        opening: RowList,
+        before: u64,
+        base: u64,
+    ) -> Result<Plain, AllocError>
+        requires before { before < 2 ^ 62 }
+        requires base { base < 2 ^ 62 }
+        ensures { IfOk result (λ m. m ≡ fresh tables short opening before base) }
+    {
+        let mut active = Vec::new(alloc);
+        for _slot in 0..SESSIONS {
+            active.push(None)?;
+        }
+        Ok(Plain {
+            tables,
+            short,
+            opening: opening.into_vec(),
+            before,
+            base,
+            ended: Vec::new(alloc),
+            active,
+            begun: 0,
+            swept: 0,
+        })
+    }
+
+    fn allocator(&self) -> Global {
+        *self.ended.allocator()
+    }
+
+    /// The session's open transaction.
+    fn open_of(&self, session: Session) -> Option<&Open>
+        ensures { option_copied result ≡ open_of self.now session }
+    {
+        self.active[session.index() as usize].as_ref()
+    }
+
+    /// The rows that the transaction sees.
+    #[tactic(auto, unfolding(px_model::specs::Machine::view))]
+    fn view(&self, transaction: &Open) -> Result<Vec<Row>, AllocError>
+        ensures { IfOk result (λ rows. rows.items ≡ view self.now transaction.now) }
+    {
+        let mut rows = copy_rows(self.allocator(), &self.opening)?;
+        apply_committed(&mut rows, first_items(&self.ended, transaction.snap))?;
+        apply(&mut rows, transaction.writes.as_slice())?;
+        Ok(rows)
+    }
+
+    #[tactic(auto, unfolding(px_calls::specs::Steps::has_table))]
+    fn has_table(&self, table: u32) -> bool
+        ensures is { result ≡ has_table self.now table }
+        ensures fits { OnTrue result (table < 256) }
+    {
+        1 <= table && table <= self.tables as u32
+    }
+}
+
+#[tactic(auto, unfolding(px_calls::specs::Steps::fits_key))]
+fn fits_key(key: &[u8]) -> bool
+    ensures { result ≡ fits_key key.now }
+{
+    1 <= key.len() && key.len() <= LONGEST_KEY
+}
