@@ -1,0 +1,10 @@
+pub mod Choices
+pub mod Cuts
+pub mod Held
+pub mod LineFeeds
+pub mod Shorts
+pub mod Taken
+pub mod TextsRead
+pub mod TextsSaid
+pub mod HexWords
+pub mod Numbers

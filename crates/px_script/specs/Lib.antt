@@ -1,0 +1,9 @@
+pub mod Words
+pub mod Feeds
+pub mod Grammar
+pub mod Reads
+pub mod Splits
+pub mod LineText
+pub mod Lines
+pub mod Piece
+pub mod Progress
