@@ -1,0 +1,94 @@
+-- The loop that reads the log.
+use Rattle.std.proofs.Common.{◌≡◌, ℕ, ◌+◌, true, List, [], ◌∷◌, ◌++◌, length, map, drop, None, refl, sym, ap, subst, ◌∙◌, arith}
+use Rattle.px_frame.specs.Frame.{FrameAt, payload_at}
+use Rattle.px_frame.proofs.Frames.{payload_at-again, payload_at-none}
+use Rattle.px_scan.specs.Scan.{frames, frames_of}
+use Rattle.px_scan.proofs.Loop.{IsScanning, scan_begins, scan_goes_on, scan_ends}
+use Rattle.std.proofs.lemmas.List.{drop_at}
+use Rattle.px_scan.proofs.Scans.{is_scan, frames_of-step}
+use Rattle.px_xlog.specs.declared.change.Change.{Change}
+use Rattle.px_xlog.specs.Payload.{change_text, may_hold, may_hold_all}
+use Rattle.px_xlog.specs.Reading.{log_text, HoldsNone}
+use Rattle.px_xlog.specs.Scanning.{IsForeign, IsNext, HasForeign, FindsForeign, FindsDamage, ScansTo}
+use Rattle.px_xlog.specs.declared.error.LogError.{LogError}
+use Rattle.px_xlog.specs.declared.error.LogError.TheVariants.{OutOfMemory, Fault as FaultOf, Damaged, LogFull}
+use Rattle.px_xlog.specs.Window.{Shows}
+use Rattle.px_xlog.proofs.FramesOfChanges.{map_push_one, length-map-text, hold_more}
+use Rattle.px_xlog.proofs.Windows.{shown, shown_frame}
+
+-- ---- one frame
+
+pub next_shown : (rest bytes : List ℕ) (tables number : ℕ) (payload : List ℕ) (size : ℕ) (change : Change) → Shows rest bytes → FrameAt bytes number payload → size ≡ 16 + length payload
+    → may_hold tables number change ≡ true → payload ≡ change_text change → IsNext rest tables number change size
+next_shown rest bytes tables number payload size change shows at sized held is = record {
+  held = held;
+  frame = subst (FrameAt rest number) is (shown_frame rest bytes number payload shows at);
+  size_is = sized ∙ ap (λ (p : List ℕ). 16 + length p) is;
+}
+
+pub foreign_shown : (rest bytes : List ℕ) (tables number : ℕ) (payload : List ℕ) → Shows rest bytes → FrameAt bytes number payload → IsForeign tables number payload → HasForeign rest tables number
+foreign_shown rest bytes tables number payload shows at foreign = record { payload = payload; frame = shown_frame rest bytes number payload shows at; foreign = foreign }
+
+pub none_shown : (rest bytes : List ℕ) (number : ℕ) → Shows rest bytes → ((payload : List ℕ) → FrameAt bytes number payload → ⊥) → payload_at rest number ≡ None
+none_shown rest bytes number shows none = sym (shown rest bytes number shows) ∙ payload_at-none bytes number none
+
+-- ---- all of them
+
+-- so many changes were read, and the next frame is looked for at this place
+pub record IsReading (content : List ℕ) (tables : ℕ) (changes : List Change) (stop count : ℕ) : Type 0 where
+  pub scanning : IsScanning content 0 (map change_text changes) stop count
+  pub held : may_hold_all tables 0 changes ≡ true
+
+pub reading_begins : (content : List ℕ) (tables : ℕ) → IsReading content tables [] 0 0
+reading_begins content tables = record { scanning = scan_begins content 0; held = refl }
+
+pub reading_goes_on : (content : List ℕ) (tables : ℕ) (changes : List Change) (stop count : ℕ) (change : Change) (size : ℕ) → IsReading content tables changes stop count → IsNext (drop stop content) tables count change size
+    → IsReading content tables (changes ++ change ∷ []) (stop + size) (count + 1)
+reading_goes_on content tables changes stop count change size reading next =
+    let many : count ≡ 0 + length changes = omega (arith, reading.scanning.numbered, length-map-text changes) in
+    let on = scan_goes_on content 0 (map change_text changes) stop count (change_text change) reading.scanning next.frame in
+    record {
+      scanning = subst (λ (ps : List (List ℕ)). IsScanning content 0 ps (stop + size) (count + 1)) (sym (map_push_one changes change))
+          (subst (λ (n : ℕ). IsScanning content 0 (map change_text changes ++ change_text change ∷ []) (stop + n) (count + 1)) (sym next.size_is) on);
+      held = hold_more tables 0 changes change reading.held (subst (λ (n : ℕ). may_hold tables n change ≡ true) many next.held);
+    }
+
+pub reading_ends : (content : List ℕ) (tables : ℕ) (changes : List Change) (stop count : ℕ) → IsReading content tables changes stop count → payload_at (drop stop content) count ≡ None → ScansTo content tables changes stop count
+unfolding log_text
+reading_ends content tables changes stop count reading none =
+    let scan = is_scan content 0 in
+    let ps = frames_of content 0 in
+    let all : map change_text changes ≡ ps = scan_ends content 0 (map change_text changes) stop count reading.scanning none in
+    let size : length (frames 0 ps) ≡ stop = ap (λ (qs : List (List ℕ)). length (frames 0 qs)) (sym all) ∙ sym reading.scanning.place in
+    let left : drop stop content ≡ scan.0 = ap (drop stop) scan.1.front ∙ drop_at (frames 0 ps) scan.0 stop size in
+    record {
+      scanned = sym all;
+      held = reading.held;
+      front = scan.1.front ∙ ap (λ (rest : List ℕ). frames 0 ps ++ rest) (sym left) ∙ ap (λ (qs : List (List ℕ)). frames 0 qs ++ drop stop content) (sym all);
+      place = reading.scanning.place;
+      count = omega (arith, reading.scanning.numbered, length-map-text changes);
+    }
+
+-- where the next frame is foreign, the log is damaged there
+pub reading_damaged : (content : List ℕ) (tables : ℕ) (changes : List Change) (stop count : ℕ) → IsReading content tables changes stop count → HasForeign (drop stop content) tables count → HoldsNone tables content stop
+unfolding log_text
+reading_damaged content tables changes stop count reading has =
+    let many : count ≡ length changes = omega (arith, reading.scanning.numbered, length-map-text changes) in
+    let found = payload_at-again (drop stop content) count has.payload has.frame in
+    record {
+      before = changes;
+      payload = has.payload;
+      others = frames_of (drop (16 + length has.payload) (drop stop content)) (count + 1);
+      scanned = sym reading.scanning.whole ∙ ap (λ (ps : List (List ℕ)). map change_text changes ++ ps) (frames_of-step (drop stop content) count has.payload found);
+      held = reading.held;
+      none = λ change ok. has.foreign change (subst (λ (n : ℕ). may_hold tables n change ≡ true) (sym many) ok);
+      at = reading.scanning.place;
+    }
+
+-- what the next frame's error says of the whole log
+pub damage_found : (content : List ℕ) (tables : ℕ) (changes : List Change) (stop count : ℕ) (error : LogError) → IsReading content tables changes stop count → FindsForeign (drop stop content) tables count stop error → FindsDamage tables content error
+damage_found content tables changes stop count OutOfMemory reading finds = tt
+damage_found content tables changes stop count (FaultOf fault) reading finds = tt
+damage_found content tables changes stop count (Damaged file place) reading finds =
+    (finds.0, subst (HoldsNone tables content) (sym finds.1) (reading_damaged content tables changes stop count reading finds.2))
+damage_found content tables changes stop count (LogFull n) reading finds = tt

@@ -1,0 +1,54 @@
+-- What errors of the log say, and what they leave.
+use Rattle.std.specs.Prelude.{◌≡◌, ◌⊎◌, Some}
+use Rattle.px_site.specs.Cause.{Counts, Rose}
+use Rattle.px_site.specs.State.{State}
+use Rattle.px_site.specs.declared.error.SiteError.{SiteError}
+use Rattle.px_site.specs.declared.error.SiteError.TheVariants.{OutOfMemory as Short, Fault as Failed}
+use Rattle.px_restart.specs.declared.restart.Restart.{Restart}
+use Rattle.px_xlog.specs.declared.error.LogError.{LogError}
+use Rattle.px_xlog.specs.declared.error.LogError.TheVariants.{OutOfMemory, Fault as FaultOf, Damaged, LogFull}
+use Rattle.px_xlog.specs.Log.{Log, full_at}
+use Rattle.px_xlog.specs.Reading.{Files, the_log, IsDamage}
+
+abbrev pub of_site : SiteError → LogError
+of_site Short = OutOfMemory
+of_site (Failed fault) = FaultOf fault
+
+-- the error is one of the site, and has its cause
+abbrev pub IsOfSite : Counts → Counts → LogError → Type 0
+IsOfSite old new OutOfMemory = Unit {0}
+IsOfSite old new (FaultOf fault) = Rose (old.faults fault) (new.faults fault)
+IsOfSite old new (Damaged file place) = ⊥
+IsOfSite old new (LogFull n) = ⊥
+
+-- an error of an append or a sync has its cause
+abbrev pub HasLogCause : Log → Counts → Counts → LogError → Type 0
+HasLogCause log old new OutOfMemory = Unit {0}
+HasLogCause log old new (FaultOf fault) = Rose (old.faults fault) (new.faults fault)
+HasLogCause log old new (Damaged file place) = ⊥
+HasLogCause log old new (LogFull n) = full_at log ≡ Some n
+
+-- that of an opening
+abbrev pub HasOpenCause : Restart → Files → Counts → Counts → LogError → Type 0
+HasOpenCause restart files old new OutOfMemory = Unit {0}
+HasOpenCause restart files old new (FaultOf fault) = Rose (old.faults fault) (new.faults fault)
+HasOpenCause restart files old new (Damaged file place) = (file ≡ the_log) × IsDamage restart (files the_log) place
+HasOpenCause restart files old new (LogFull n) = ⊥
+
+-- the same of what shows by the counts alone
+abbrev pub CountsLogFault : Counts → Counts → LogError → Type 0
+CountsLogFault old new OutOfMemory = Unit {0}
+CountsLogFault old new (FaultOf fault) = Rose (old.faults fault) (new.faults fault)
+CountsLogFault old new (Damaged file place) = Unit {0}
+CountsLogFault old new (LogFull n) = ⊥
+
+-- what an error leaves of the site: a refusal and want of the call's own memory leave it as it was
+abbrev pub LeavesSite : State → State → Counts → Counts → LogError → Type 0
+LeavesSite before now old new OutOfMemory = (now ≡ before) ⊎ Rose old.shorts new.shorts
+LeavesSite before now old new (FaultOf fault) = Unit {0}
+LeavesSite before now old new (Damaged file place) = now ≡ before
+LeavesSite before now old new (LogFull n) = now ≡ before
+
+abbrev pub OnShortage : LogError → Type 0 → Type 0
+OnShortage OutOfMemory P = P
+OnShortage _ P = Unit {0}

@@ -1,0 +1,47 @@
+-- How the log is read: change by change, from its first frame on.
+use Rattle.std.specs.Prelude.{◌≡◌, ◌≢◌, ℕ, ◌+◌, true, List, ◌++◌, length, map, drop}
+use Rattle.px_frame.specs.Frame.{FrameAt}
+use Rattle.px_scan.specs.Scan.{frames_of}
+use Rattle.px_xlog.specs.declared.change.Change.{Change}
+use Rattle.px_xlog.specs.declared.error.LogError.{LogError}
+use Rattle.px_xlog.specs.declared.error.LogError.TheVariants.{OutOfMemory, Fault as FaultOf, Damaged, LogFull}
+use Rattle.px_xlog.specs.Payload.{change_text, may_hold, may_hold_all}
+use Rattle.px_xlog.specs.Reading.{the_log, log_text, HoldsNone}
+
+-- the payload is no change that this frame may hold
+abbrev pub IsForeign : (tables number : ℕ) → List ℕ → Type 0
+IsForeign tables number payload = (change : Change) → may_hold tables number change ≡ true → payload ≢ change_text change
+
+-- a frame of this change, which it may hold, stands at the front of the rest
+pub record IsNext (rest : List ℕ) (tables number : ℕ) (change : Change) (size : ℕ) : Type 0 where
+  pub held : may_hold tables number change ≡ true
+  pub frame : FrameAt rest number (change_text change)
+  pub size_is : size ≡ 16 + length (change_text change)
+
+-- a frame with a foreign payload stands there
+pub record HasForeign (rest : List ℕ) (tables number : ℕ) : Type 0 where
+  pub payload : List ℕ
+  pub frame : FrameAt rest number payload
+  pub foreign : IsForeign tables number payload
+
+-- what Damaged says where the next frame is read
+abbrev pub FindsForeign : List ℕ → (tables number place : ℕ) → LogError → Type 0
+FindsForeign rest tables number place OutOfMemory = Unit {0}
+FindsForeign rest tables number place (FaultOf fault) = Unit {0}
+FindsForeign rest tables number place (Damaged file at) = (file ≡ the_log) × (at ≡ place) × HasForeign rest tables number
+FindsForeign rest tables number place (LogFull n) = Unit {0}
+
+-- and where all of them are
+abbrev pub FindsDamage : ℕ → List ℕ → LogError → Type 0
+FindsDamage tables content OutOfMemory = Unit {0}
+FindsDamage tables content (FaultOf fault) = Unit {0}
+FindsDamage tables content (Damaged file place) = (file ≡ the_log) × HoldsNone tables content place
+FindsDamage tables content (LogFull n) = Unit {0}
+
+-- the scan of the content gives these changes, and stops there
+pub record ScansTo (content : List ℕ) (tables : ℕ) (changes : List Change) (stop frames : ℕ) : Type 0 where
+  pub scanned : frames_of content 0 ≡ map change_text changes
+  pub held : may_hold_all tables 0 changes ≡ true
+  pub front : content ≡ log_text changes ++ drop stop content
+  pub place : stop ≡ length (log_text changes)
+  pub count : frames ≡ length changes

@@ -1,0 +1,107 @@
+ghost use Rattle.std.specs.Prelude.{◌≡◌, ◌^◌, ◌<◌, [], ◌∷◌, ◌++◌, true, OnOk, OnErr};
+ghost use Rattle.px_frame.specs.Frame.{frame};
+ghost use Rattle.px_xlog.specs.Log.{is_end};
+ghost use Rattle.px_xlog.specs.Payload.{change_text, head, is_change};
+
+use crate::Change;
+use crate::payload::{END_SIZE, KIND_COMMIT, KIND_ROLLBACK, end_bytes, put_change};
+use px_bytes::{fnv, fnv_on};
+use px_frame::write_frame;
+use std::alloc::{AllocError, Global};
+use std::marker::Model;
+
+/// The bytes of a frame without a row.
+const END_FRAME_SIZE: usize = 34;
+
+/// The bytes of one frame. Their memory is used again for the next frame. The frame of an end takes none, so that a
+/// commit or a rollback is never refused for want of it.
+#[derive(Debug, Drop)]
+pub struct FrameBuffer {
+    payload: Vec<u8>,
+    bytes: Vec<u8>,
+    end: [u8; END_FRAME_SIZE],
+    is_end: bool,
+}
+
+impl Model for FrameBuffer {
+    ghost use Rattle.std.specs.Prelude.{List, ℕ, cond};
+
+    ghost Value = { List ℕ };
+
+    ghost view = { λ buffer. cond buffer.is_end buffer.end buffer.bytes.items };
+}
+
+impl FrameBuffer {
+    pub fn new(alloc: Global) -> FrameBuffer {
+        FrameBuffer {
+            payload: Vec::new(alloc),
+            bytes: Vec::new(alloc),
+            end: [0; END_FRAME_SIZE],
+            is_end: false,
+        }
+    }
+
+    /// Takes the frame of a change with this number, in place of what was there.
+    pub fn fill(&mut self, number: u64, change: &Change) -> Result<(), AllocError>
+        requires numbered { number < 2 ^ 48 }
+        requires grammar { is_change change.now ≡ true }
+        ensures frame { OnOk result (self.new ≡ frame number (change_text change.now)) }
+        ensures room { is_end change.now ≡ true → OnErr result ⊥ }
+    {
+        match change {
+            Change::Put { .. } => self.fill_put(number, change),
+            Change::Commit { xn, commit } => {
+                self.fill_end(end_frame(number, KIND_COMMIT, *xn, *commit));
+                Ok(())
+            }
+            Change::Rollback { xn } => {
+                self.fill_end(end_frame(number, KIND_ROLLBACK, *xn, 0));
+                Ok(())
+            }
+        }
+    }
+
+    fn fill_end(&mut self, frame: [u8; END_FRAME_SIZE])
+        ensures { self.new ≡ frame }
+    {
+        self.end = frame;
+        self.is_end = true;
+    }
+
+    fn fill_put(&mut self, number: u64, change: &Change) -> Result<(), AllocError>
+        requires numbered { number < 2 ^ 48 }
+        requires grammar { is_change change.now ≡ true }
+        ensures { OnOk result (self.new ≡ frame number (change_text change.now)) }
+    {
+        self.payload.clear();
+        put_change(&mut self.payload, change)?;
+        self.bytes.clear();
+        self.is_end = false;
+        write_frame(&mut self.bytes, number, &self.payload)
+    }
+
+    pub fn as_slice(&self) -> &[u8]
+        ensures { result.now ≡ self.now }
+    {
+        if self.is_end {
+            &self.end
+        } else {
+            self.bytes.as_slice()
+        }
+    }
+}
+
+// The frame of a commit or a rollback, as `write_frame` writes it.
+fn end_frame(number: u64, kind: u8, xn: u64, commit: u64) -> [u8; END_FRAME_SIZE]
+    ensures { result ≡ frame number (head kind xn commit ++ 0 ∷ []) }
+{
+    let p = end_bytes(kind, xn, commit);
+    let l = (END_SIZE as u32).to_be_bytes();
+    let n = number.to_be_bytes();
+    let s = fnv_on(fnv(&n), &p).to_be_bytes();
+    [
+        l[0], l[1], l[2], l[3], s[0], s[1], s[2], s[3], n[0], n[1], n[2], n[3], n[4], n[5], n[6],
+        n[7], p[0], p[1], p[2], p[3], p[4], p[5], p[6], p[7], p[8], p[9], p[10], p[11], p[12],
+        p[13], p[14], p[15], p[16], p[17],
+    ]
+}

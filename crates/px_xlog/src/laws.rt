@@ -1,0 +1,37 @@
+//! What the definitions say of small examples.
+ghost use Rattle.std.specs.Prelude.{◌≡◌, [], ◌∷◌, ◌++◌, map, true, false};
+ghost use Rattle.px_frame.specs.Frame.{frame};
+ghost use Rattle.px_scan.specs.Scan.{frames_of};
+ghost use Rattle.px_model.specs.declared.write.Write.TheVariants.{Put as PutRow, Delete};
+ghost use Rattle.px_xlog.specs.Examples.{aa, begun_log, ended_log};
+ghost use Rattle.px_xlog.specs.Payload.{change_text, may_hold, may_hold_all};
+ghost use Rattle.px_xlog.specs.Reading.{log_text, commits_in, rows_in};
+
+use crate::Change;
+
+/// The bytes of a commit and of a row, field by field.
+pub fn texts_of_changes()
+    ensures commit { change_text (Change.Commit 1 1) ≡ 2 ∷ 0 ∷ 0 ∷ 0 ∷ 0 ∷ 0 ∷ 0 ∷ 0 ∷ 1 ∷ 0 ∷ 0 ∷ 0 ∷ 0 ∷ 0 ∷ 0 ∷ 0 ∷ 1 ∷ 0 ∷ [] }
+    ensures row { change_text (Change.Put 3 (PutRow aa)) ≡ 1 ∷ 0 ∷ 0 ∷ 0 ∷ 0 ∷ 0 ∷ 0 ∷ 0 ∷ 3 ∷ 0 ∷ 0 ∷ 0 ∷ 0 ∷ 0 ∷ 0 ∷ 0 ∷ 0
+        ∷ 1 ∷ 1 ∷ 1 ∷ 0 ∷ 0 ∷ 0 ∷ 5 ∷ 0 ∷ 1 ∷ 1 ∷ 170 ∷ [] }
+{}
+
+/// A commit's number goes with its frame's, and a row's table with the store's.
+pub fn what_a_frame_may_hold()
+    ensures next { may_hold 1 0 (Change.Commit 1 1) ≡ true }
+    ensures too_great { may_hold 1 0 (Change.Commit 1 2) ≡ false }
+    ensures table { may_hold 1 0 (Change.Put 1 (Delete 1 (7 ∷ []))) ≡ true }
+    ensures no_table { may_hold 1 0 (Change.Put 1 (Delete 2 (7 ∷ []))) ≡ false }
+    ensures no_key { may_hold 1 0 (Change.Put 1 (Delete 1 [])) ≡ false }
+    ensures no_number { may_hold 1 0 (Change.Rollback 0) ≡ false }
+{}
+
+/// A transaction's rows count once it has committed, and the scan stops at a torn frame, whatever stands behind it.
+pub fn what_a_log_stands_for()
+    ensures held { may_hold_all 1 0 ended_log ≡ true }
+    ensures commits { commits_in ended_log ≡ 1 }
+    ensures rows { rows_in ended_log ≡ aa ∷ [] }
+    ensures open_one { rows_in begun_log ≡ [] }
+    ensures scanned { frames_of (log_text ended_log) 0 ≡ map change_text ended_log }
+    ensures torn { frames_of (log_text begun_log ++ 0 ∷ frame 2 (change_text (Change.Commit 1 1))) 0 ≡ map change_text begun_log }
+{}

@@ -1,0 +1,85 @@
+ghost use Rattle.std.specs.Prelude.{◌≡◌, ℕ, ◌*◌, ◌^◌, ◌≤◌, List, take, IfOk, IfErr, OnOk};
+ghost use Rattle.px_model.specs.declared.row.Row.{Row};
+ghost use Rattle.px_site.specs.Cause.{NoneFell};
+ghost use Rattle.px_site.specs.Disk.{at_rest};
+ghost use Rattle.px_site.specs.State.{EachMoment, OnFile, Stands};
+ghost use Rattle.px_xlog.specs.Errors.{CountsLogFault, HasOpenCause, IsOfSite, LeavesSite};
+ghost use Rattle.px_xlog.specs.Images.{KeepsStanding, Settled};
+ghost use Rattle.px_xlog.specs.Log.{IsCutting, IsLogOf, OnlyGrew, ReadsAsBefore};
+ghost use Rattle.px_xlog.specs.Reading.{Scans, log_text, the_log};
+ghost use Rattle.px_xlog.specs.Scanning.{ScansTo};
+ghost use Rattle.px_xlog.specs.Window.{longest_frame};
+
+use crate::place::log_file;
+use crate::reader::{LogScan, read_log};
+use crate::{ChangeList, LogError, Xlog};
+use px_restart::Restart;
+use px_site::Site;
+use std::alloc::Global;
+
+/// Reads the log from its first frame on, cuts what is torn behind its last frame, and makes the cut durable. Damaged
+/// where the reading stops below the restart's `durable`, or where the payload of a frame is no change that it may hold.
+pub fn open_log<W: Site>(
+    alloc: Global,
+    site: &mut W,
+    restart: &Restart,
+) -> Result<(Xlog, ChangeList), LogError>
+    ensures read { W.tells → IfOk result (λ opened. Scans restart.now ((W.state site.old).content the_log) opened.1) }
+    ensures marks { IfOk result (λ opened. (opened.0.tables ≡ restart.now.tables) × (opened.0.durable ≡ opened.0.frames)) }
+    ensures logged { W.tells → IfOk result (λ opened. IsLogOf opened.0 opened.1 (W.state site.new)) }
+    ensures left { W.tells → IfOk result (λ opened.
+        Stands the_log (W.state site.old) (at_rest (log_text opened.1)) (log_text opened.1) (W.state site.new)) }
+    ensures untouched { W.tells → IfErr result (λ error. LeavesSite (W.state site.old) (W.state site.new) (W.counts site.old) (W.counts site.new) error) }
+    ensures moments { W.tells → OnlyGrew ((W.state site.old).now.files the_log) ((W.state site.old).content the_log)
+        → EachMoment (OnFile the_log (W.state site.old).now (ReadsAsBefore ((W.state site.old).now.files the_log))) (W.state site.old) (W.state site.new) }
+    ensures standing { W.tells → (commits : ℕ) (rows : List Row) → Settled (W.state site.old) commits rows
+        → EachMoment (KeepsStanding commits rows (W.state site.old).now) (W.state site.old) (W.state site.new) }
+    ensures none_fell { NoneFell (W.counts site.old) (W.counts site.new) }
+    ensures fault { IfErr result (CountsLogFault (W.counts site.old) (W.counts site.new)) }
+    ensures cause { W.tells → IfErr result (HasOpenCause restart.now (W.state site.old).content (W.counts site.old) (W.counts site.new)) }
+{
+    let scan = recover(alloc, site, restart)?;
+    let log = Xlog::recovered(alloc, restart.tables, scan.frames, scan.stop);
+    Ok((log, scan.changes))
+}
+
+fn recover<W: Site>(alloc: Global, site: &mut W, restart: &Restart) -> Result<LogScan, LogError>
+    ensures scan { W.tells → IfOk result (λ scan. ScansTo ((W.state site.old).content the_log) restart.now.tables scan.changes scan.stop scan.frames) }
+    ensures reached { IfOk result (λ scan. restart.now.durable ≤ scan.frames) }
+    ensures small { IfOk result (λ scan. (scan.stop ≤ longest_frame * scan.frames) × (scan.frames ≤ 2 ^ 48)) }
+    ensures left { W.tells → IfOk result (λ scan.
+        Stands the_log (W.state site.old) (at_rest (log_text scan.changes)) (log_text scan.changes) (W.state site.new)) }
+    ensures untouched { W.tells → IfErr result (λ error. LeavesSite (W.state site.old) (W.state site.new) (W.counts site.old) (W.counts site.new) error) }
+    ensures moments { W.tells → OnlyGrew ((W.state site.old).now.files the_log) ((W.state site.old).content the_log)
+        → EachMoment (OnFile the_log (W.state site.old).now (ReadsAsBefore ((W.state site.old).now.files the_log))) (W.state site.old) (W.state site.new) }
+    ensures none_fell { NoneFell (W.counts site.old) (W.counts site.new) }
+    ensures fault { IfErr result (CountsLogFault (W.counts site.old) (W.counts site.new)) }
+    ensures cause { W.tells → IfErr result (HasOpenCause restart.now (W.state site.old).content (W.counts site.old) (W.counts site.new)) }
+{
+    let scan = read_log(alloc, site, restart.tables)?;
+    if scan.frames < restart.durable {
+        return Err(LogError::Damaged {
+            file: log_file(),
+            place: scan.stop,
+        });
+    }
+    cut_log(site, scan.stop)?;
+    Ok(scan)
+}
+
+// What stands behind the scanned frames is cut, and the cut is synced before anything is written there. Else a whole
+// frame behind a torn one might come back once a new frame stands in the torn one's place.
+fn cut_log<W: Site>(site: &mut W, stop: u64) -> Result<(), LogError>
+    ensures left { W.tells → OnOk result (Stands the_log (W.state site.old)
+        (at_rest (take stop ((W.state site.old).content the_log))) (take stop ((W.state site.old).content the_log)) (W.state site.new)) }
+    ensures moments { W.tells → EachMoment (OnFile the_log (W.state site.old).now
+        (IsCutting stop ((W.state site.old).now.files the_log) ((W.state site.old).content the_log))) (W.state site.old) (W.state site.new) }
+    ensures untouched { W.tells → IfErr result (λ error. LeavesSite (W.state site.old) (W.state site.new) (W.counts site.old) (W.counts site.new) error) }
+    ensures none_fell { NoneFell (W.counts site.old) (W.counts site.new) }
+    ensures cause { IfErr result (IsOfSite (W.counts site.old) (W.counts site.new)) }
+{
+    let file = log_file();
+    site.cut(file, stop)?;
+    site.sync(file)?;
+    Ok(())
+}

@@ -1,0 +1,169 @@
+ghost use Rattle.std.specs.Prelude.{◌≡◌, ℕ, ◌-◌, ◌*◌, ◌^◌, ◌<◌, ◌≤◌, true, if◌then◌else◌, List, [], ◌∷◌, ◌++◌, Some, IfOk, IfErr, IsErrOf, OnOk, OnErr};
+ghost use Rattle.px_site.specs.Cause.{NoneFell, Rose};
+ghost use Rattle.px_site.specs.State.{EachMoment, OnFile};
+ghost use Rattle.px_xlog.specs.Errors.{HasLogCause, LeavesSite, OnShortage};
+ghost use Rattle.px_xlog.specs.Log.{HasFirst, IsLogOf, full_at, is_end, with_frame};
+ghost use Rattle.px_xlog.specs.Payload.{may_hold};
+ghost use Rattle.px_xlog.specs.Reading.{the_log};
+ghost use Rattle.px_xlog.specs.Window.{longest_frame};
+ghost use Rattle.px_xlog.specs.declared.change.Change.{Change};
+
+use crate::frame_buffer::FrameBuffer;
+use crate::place::{FIRST_NUMBER, MOST_FRAMES, ONLY_SEGMENT, log_file};
+use crate::{Change, LogError};
+use px_site::Site;
+use std::alloc::{AllocError, Global};
+use std::marker::Model;
+
+/// The transaction log, to which frames are appended. Contracts see it as its counts; `IsLogOf` says which changes it
+/// has on a site. Its owner gives it up after a fault of the site.
+#[derive(Debug, Drop)]
+pub struct Xlog {
+    tables: u32,
+    frames: u64,
+    durable: u64,
+    size: u64,
+    spare: u32,
+    buffer: FrameBuffer,
+}
+
+impl Model for Xlog {
+    ghost use Rattle.std.specs.Prelude.{◌*◌, ◌^◌, ◌≤◌};
+    ghost use Rattle.px_xlog.specs.Log.{Log};
+    ghost use Rattle.px_xlog.specs.Window.{longest_frame};
+
+    ghost Value = { Log };
+
+    ghost view = { λ x. record { tables = x.tables; frames = x.frames; durable = x.durable; size = x.size; spare = x.spare } };
+
+    // No frame is longer, so the next one's place fits; and no frame has a greater number.
+    ghost invariant = { λ x. (x.size ≤ longest_frame * x.frames) × (x.frames ≤ 2 ^ 48) };
+}
+
+impl Xlog {
+    /// A log that was read from its file, all of it durable.
+    pub(crate) fn recovered(alloc: Global, tables: u32, frames: u64, size: u64) -> Xlog
+        requires sized { size ≤ longest_frame * frames }
+        requires numbered { frames ≤ 2 ^ 48 }
+        ensures { result ≡ record { tables = tables; frames = frames; durable = frames; size = size; spare = 0 } }
+    {
+        Xlog {
+            tables,
+            frames,
+            durable: frames,
+            size,
+            spare: 0,
+            buffer: FrameBuffer::new(alloc),
+        }
+    }
+
+    /// Appends a frame of the change, and answers its number. LogFull where the log takes no frame of that number.
+    pub fn append<W: Site>(&mut self, site: &mut W, change: &Change) -> Result<u64, LogError>
+        requires { may_hold self.old.tables self.old.frames change.now ≡ true }
+        ensures number { IfOk result (λ number. number ≡ self.old.frames) }
+        ensures marks { OnOk result (self.new ≡ with_frame change.now self.old) }
+        ensures as_before { OnErr result (self.new ≡ self.old) }
+        ensures logged { W.tells → (changes : List Change) → IsLogOf self.old changes (W.state site.old)
+            → OnOk result (IsLogOf self.new (changes ++ change.now ∷ []) (W.state site.new)) }
+        ensures untouched { W.tells → IfErr result (λ error. LeavesSite (W.state site.old) (W.state site.new) (W.counts site.old) (W.counts site.new) error) }
+        ensures moments { W.tells → (changes : List Change) → IsLogOf self.old changes (W.state site.old)
+            → EachMoment (OnFile the_log (W.state site.old).now (HasFirst self.old.durable (changes ++ change.now ∷ []))) (W.state site.old) (W.state site.new) }
+        ensures full { full_at self.old ≡ Some self.old.frames → IsErrOf result (LogError.LogFull self.old.frames) }
+        ensures room { 0 < self.old.spare → is_end change.now ≡ true
+            → IfErr result (λ error. OnShortage error (Rose (W.counts site.old).shorts (W.counts site.new).shorts)) }
+        ensures none_fell { NoneFell (W.counts site.old) (W.counts site.new) }
+        ensures cause { IfErr result (HasLogCause self.old (W.counts site.old) (W.counts site.new)) }
+    {
+        let number = self.frames;
+        if number >= MOST_FRAMES {
+            return Err(LogError::LogFull(number));
+        }
+        self.buffer.fill(number, change)?;
+        let frame = self.buffer.as_slice();
+        site.write_at(log_file(), self.size, frame)?;
+        self.size += frame.len() as u64;
+        self.frames = number + 1;
+        self.spare = spare_after(self.spare, change);
+        Ok(number)
+    }
+
+    /// Makes each frame durable. Where each is, nothing is done.
+    pub fn flush<W: Site>(&mut self, site: &mut W) -> Result<(), LogError>
+        ensures marks { OnOk result (self.new ≡ record self.old { durable = self.old.frames }) }
+        ensures as_before { OnErr result (self.new ≡ self.old) }
+        ensures logged { W.tells → (changes : List Change) → IsLogOf self.old changes (W.state site.old)
+            → OnOk result (IsLogOf self.new changes (W.state site.new)) }
+        ensures idle { W.tells → self.old.durable ≡ self.old.frames → W.state site.new ≡ W.state site.old }
+        ensures untouched { W.tells → IfErr result (λ error. LeavesSite (W.state site.old) (W.state site.new) (W.counts site.old) (W.counts site.new) error) }
+        ensures moments { W.tells → (changes : List Change) → IsLogOf self.old changes (W.state site.old)
+            → EachMoment (OnFile the_log (W.state site.old).now (HasFirst self.old.durable changes)) (W.state site.old) (W.state site.new) }
+        ensures room { IfErr result (λ error. OnShortage error (Rose (W.counts site.old).shorts (W.counts site.new).shorts)) }
+        ensures none_fell { NoneFell (W.counts site.old) (W.counts site.new) }
+        ensures cause { IfErr result (HasLogCause self.old (W.counts site.old) (W.counts site.new)) }
+    {
+        if self.durable == self.frames {
+            return Ok(());
+        }
+        let file = log_file();
+        site.sync(file)?;
+        self.durable = self.frames;
+        Ok(())
+    }
+
+    /// Takes the room for the ends of so many transactions: an append of one wants no memory of its own.
+    pub fn reserve_ends(&mut self, ends: u32) -> Result<(), AllocError>
+        ensures ok { OnOk result (ends ≤ self.new.spare) }
+        ensures no_less { self.old.spare ≤ self.new.spare }
+        ensures others { self.new ≡ record self.old { spare = self.new.spare } }
+    {
+        if self.spare < ends {
+            self.spare = ends;
+        }
+        Ok(())
+    }
+
+    /// How many frames the log has: the next one's number.
+    pub fn frames(&self) -> u64
+        ensures { result ≡ self.now.frames }
+    {
+        self.frames
+    }
+
+    /// How many of them are durable.
+    pub fn durable(&self) -> u64
+        ensures { result ≡ self.now.durable }
+    {
+        self.durable
+    }
+
+    /// The segment of a frame, and that segment's first number.
+    pub fn segment_of(&self, number: u64) -> (u32, u64)
+        requires { number ≤ self.now.frames }
+        ensures { result ≡ (1, 0) }
+    {
+        let _number = number;
+        (ONLY_SEGMENT, FIRST_NUMBER)
+    }
+
+    /// The number with which the next append answers LogFull. None exactly where it doesn't.
+    pub fn full(&self) -> Option<u64>
+        ensures { result ≡ full_at self.now }
+    {
+        if self.frames < MOST_FRAMES {
+            None
+        } else {
+            Some(self.frames)
+        }
+    }
+}
+
+// How many ends have their room once this change is appended.
+fn spare_after(spare: u32, change: &Change) -> u32
+    ensures { result ≡ (if is_end change.now then spare - 1 else spare) }
+{
+    if change.is_end() {
+        spare.saturating_sub(1)
+    } else {
+        spare
+    }
+}
