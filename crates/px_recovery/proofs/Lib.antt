@@ -1,0 +1,5 @@
+pub mod Deciding
+pub mod Fronts
+pub mod NewMoments
+pub mod NewStore
+pub mod Others

@@ -1,0 +1,8 @@
+use Rattle.px_recovery.proofs.NewMoments.{writing_moments, syncing_moments}
+use Rattle.px_recovery.proofs.making.write_restart.Goals as goal
+
+pub returns-in_err-write_at-clause-moments : goal.returns-in_err-write_at-clause-moments
+returns-in_err-write_at-clause-moments g c t = writing_moments c.restart_bytes-bytes.ensures (c.write_at.ensures.moves t)
+
+pub returns-clause-moments : goal.returns-clause-moments
+returns-clause-moments g c t = syncing_moments c.restart_bytes-bytes.ensures (c.in_ok-write_at.ensures.moves t) (c.sync.ensures.moves t)
