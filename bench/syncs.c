@@ -1,0 +1,21 @@
+/* Pieces of 250 bytes written one behind the other, each synced before the next: usage: syncs TIMES */
+#include "pieces.h"
+
+int main(int argc, char **argv)
+{
+    if (argc < 2)
+        return 2;
+    uint32_t times = (uint32_t)strtoul(argv[1], NULL, 10);
+    int file = new_file();
+    uint8_t piece[PIECE_SIZE];
+    memset(piece, 0x61, sizeof piece);
+
+    uint64_t start = now_us();
+    for (uint32_t number = 0; number < times; number++)
+        if (!write_piece(file, piece, number) || fdatasync(file) != 0)
+            return 1;
+    off_t len = lseek(file, 0, SEEK_END);
+    tell("sync", start);
+    printf("syncs %u: %lld bytes\n", times, (long long)len);
+    return gone(file);
+}
