@@ -1,5 +1,6 @@
 ghost use Rattle.std.specs.Prelude.{◌≡◌, IfOk, IsOk, false};
 ghost use Rattle.px_calls.specs.Kinds.{has_rows};
+ghost use Rattle.px_calls.specs.Steps.{is_refusal};
 
 use px_model::{Row, RowList};
 use px_site::FileName;
@@ -114,6 +115,47 @@ impl Reply {
             Reply::Saved(n) => Ok(Reply::Saved(*n)),
             Reply::Trimmed(n) => Ok(Reply::Trimmed(*n)),
             Reply::Idle => Ok(Reply::Idle),
+        }
+    }
+
+    /// Whether a session's call was refused, so that it left the store as it was.
+    pub fn is_refusal(&self) -> bool
+        ensures { result ≡ is_refusal self.now }
+    {
+        match self {
+            Reply::NoTransaction
+            | Reply::OpenAlready
+            | Reply::LimitBegins
+            | Reply::NoTable
+            | Reply::LimitKey
+            | Reply::LimitBody
+            | Reply::LimitWrites
+            | Reply::LimitTickets
+            | Reply::NoTicket
+            | Reply::Conflict(_)
+            | Reply::Duplicate
+            | Reply::Missing
+            | Reply::TableFull(_) => true,
+            Reply::Began(_)
+            | Reply::RowIs(_)
+            | Reply::NoRow
+            | Reply::Held(_)
+            | Reply::Rows(_)
+            | Reply::Inserted
+            | Reply::Updated
+            | Reply::Deleted
+            | Reply::Committed(_)
+            | Reply::EndedEmpty
+            | Reply::RolledBack
+            | Reply::Applied(_)
+            | Reply::Swept(_)
+            | Reply::Moved(_)
+            | Reply::Dropped(_)
+            | Reply::Noted
+            | Reply::Synced(_)
+            | Reply::Saved(_)
+            | Reply::Trimmed(_)
+            | Reply::Idle => false,
         }
     }
 }

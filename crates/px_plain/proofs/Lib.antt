@@ -1,3 +1,4 @@
+pub mod Begun
 pub mod EveryHistory
 pub mod Legality
 pub mod Limits
@@ -9,3 +10,4 @@ pub mod RowSteps
 pub mod Running
 pub mod Sweeping
 pub mod Unwriting
+pub mod Writers

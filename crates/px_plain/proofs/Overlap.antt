@@ -83,7 +83,7 @@ slice_get_from xs n i e le at =
     ∙ ap (λ v. Some v) (get_or-drop n xs (i - n) e ∙ ap (λ j. get_or xs j e) back ∙ get_or_from_slice_get xs i e e at)
 
 -- a slot that was set, or another one
-slot_cases : (active : List (Option Open)) (s t : ℕ) (slot : Option Open) (y : Open) → get_or (set active s slot) t None ≡ Some y
+pub slot_cases : (active : List (Option Open)) (s t : ℕ) (slot : Option Open) (y : Open) → get_or (set active s slot) t None ≡ Some y
     → ((t ≡ s) × (slot ≡ Some y)) ⊎ ((t ≢ s) × (get_or active t None ≡ Some y))
 slot_cases active s t slot y at = elim (cases_eq t s) [
   | inl e ↦ elim (cases_lt s (length active)) [

@@ -1,2 +1,4 @@
+pub mod Begun
 pub mod Runs
 pub mod Unwriting
+pub mod Writers

@@ -2,8 +2,9 @@
 //!
 //! It is slow on purpose. The contract of each call is the definition of that call, so it shows that
 //! the definitions can be met, it is the first body of the engine's core, and later bodies are compared
-//! with it. `Plain` has the calls of a session, the sweeper's step, the counts of a store, and runs over
-//! whole lists of calls and steps. `laws` says what holds of every such run.
+//! with it. `Plain` has the calls of a session and what its transaction has written last, the sweeper's
+//! step, the counts of a store, and runs over whole lists of calls and steps. `laws` says what holds of
+//! every such run.
 #![tactic(auto)]
 
 mod laws;
@@ -16,4 +17,5 @@ pub use laws::{
     a_transaction_has_so_many_writes, the_first_committer_wins, the_sweeper_changes_no_reply,
 };
 pub use plain::Plain;
+pub use rows::apply_write;
 pub use steps::Step;

@@ -11,6 +11,7 @@ mod ending;
 mod reading;
 mod runs;
 mod sweeping;
+mod writers;
 mod writing;
 
 use crate::rows::{apply, apply_committed, copy_rows};
@@ -21,7 +22,8 @@ use std::marker::Model;
 
 /// The machine. Contracts see it whole.
 ///
-/// There is room among the ended transactions for each open one, so that an end takes no memory.
+/// There is room among the ended transactions for each open one, so that an end takes no memory. The number of each open
+/// one was given out, so that its stored number is below 2^62.
 #[derive(Drop)]
 pub struct Plain {
     /// How many tables there are, and how long a body a slot holds.
@@ -46,18 +48,19 @@ impl Model for Plain {
     ghost use Rattle.std.specs.Vec.{vec_capacity};
     ghost use Rattle.px_model.specs.declared.limits.TheConstants.{SESSIONS};
     ghost use Rattle.px_model.specs.Machine.{Machine};
+    ghost use Rattle.px_plain.specs.Begun.{WereBegun};
 
     ghost Value = { Machine };
 
     ghost view = { λ a. record { tables = a.tables; short = a.short; opening = a.opening.items; before = a.before; base = a.base; ended = a.ended.items; active = a.active.items; begun = a.begun; swept = a.swept } };
 
-    ghost invariant = { λ a. (length a.active.items ≡ SESSIONS) × (a.begun < 2 ^ 32) × (a.base + a.begun < 2 ^ 62) × (a.before < 2 ^ 62) × (vec_len a.ended + count_by is_some a.active.items ≤ vec_capacity a.ended) };
+    ghost invariant = { λ a. (length a.active.items ≡ SESSIONS) × (a.begun < 2 ^ 32) × (WereBegun a.begun a.active.items) × (a.base + a.begun < 2 ^ 62) × (a.before < 2 ^ 62) × (vec_len a.ended + count_by is_some a.active.items ≤ vec_capacity a.ended) };
 }
 
 impl Plain {
     /// A store of so many tables, whose slots hold bodies of up to `short` bytes. It has the rows
     /// `opening` after `before` commits, and its first transaction has the stored number `base + 1`.
-    #[tactic(auto, unfolding(px_model::specs::Machine::fresh))]
+    #[tactic(auto, using(crate::proofs::Begun::were_begun), unfolding(px_model::specs::Machine::fresh))]
     pub fn new(
         alloc: Global,
         tables: u8,

@@ -59,7 +59,7 @@ pub(crate) fn apply_flat(rows: &mut Vec<Row>, flat: &[Flat]) -> Result<(), Alloc
 {
     for part in flat {
         if part.committed {
-            apply_one(rows, &part.write)?;
+            apply_write(rows, &part.write)?;
         }
     }
     Ok(())
@@ -70,12 +70,14 @@ pub(crate) fn apply(rows: &mut Vec<Row>, writes: &[Write]) -> Result<(), AllocEr
     ensures { OnOk result (rows.new.items ≡ after rows.old.items writes.now) }
 {
     for write in writes {
-        apply_one(rows, write)?;
+        apply_write(rows, write)?;
     }
     Ok(())
 }
 
-fn apply_one(rows: &mut Vec<Row>, write: &Write) -> Result<(), AllocError>
+/// Applies the write to rows in order of their keys: the row goes in its place, over the one that has its key, or the
+/// key's row goes. It fails only for want of memory.
+pub fn apply_write(rows: &mut Vec<Row>, write: &Write) -> Result<(), AllocError>
     ensures { OnOk result (rows.new.items ≡ after_write rows.old.items write.now) }
 {
     match write {

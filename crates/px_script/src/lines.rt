@@ -49,7 +49,7 @@ pub struct Lines {
 }
 
 impl Model for Lines {
-    ghost use Rattle.std.specs.Prelude.{◌≤◌, length, take, drop};
+    ghost use Rattle.std.specs.Prelude.{◌≡◌, ◌<◌, ◌≤◌, true, length, take, drop};
     ghost use Rattle.px_script.specs.Progress.{Progress, longest_input};
     ghost use Rattle.px_script.specs.Feeds.{NoFeed};
 
@@ -57,7 +57,7 @@ impl Model for Lines {
 
     ghost view = { λ l. record { held = drop l.handed l.window; line = take l.line l.window; count = l.count; ended = l.ended } };
 
-    ghost invariant = { λ l. (l.line ≤ l.handed) × (l.handed ≤ length l.window) × (l.searched ≤ length (drop l.handed l.window)) × NoFeed (take l.searched (drop l.handed l.window)) × (l.count ≤ longest_input) };
+    ghost invariant = { λ l. (l.line ≤ l.handed) × (l.handed ≤ length l.window) × (l.searched ≤ length (drop l.handed l.window)) × NoFeed (take l.searched (drop l.handed l.window)) × (l.count ≤ longest_input) × (l.ended ≡ true → l.count < longest_input) };
 }
 
 impl Lines {
@@ -88,6 +88,8 @@ impl Lines {
         ensures at_end { S.tells → self.new.ended ≡ true → S.left source.new ≡ [] }
         ensures waits { complete_lines self.old.held ≢ [] → source.new ≡ source.old }
         ensures over { self.old.ended ≡ true → source.new ≡ source.old }
+        ensures over_stays { self.old.ended ≡ true → self.new.ended ≡ true }
+        ensures over_below { self.new.ended ≡ true → self.new.count < longest_input }
         ensures fault { IfOk result (λ next. next ≡ NextLine.Fault → Rose (S.faults source.old) (S.faults source.new)) }
         ensures none_fell { S.faults source.old ≤ S.faults source.new }
     {
@@ -111,6 +113,7 @@ impl Lines {
         ensures ended { self.new.ended ≡ self.old.ended }
         ensures no_fault { result ≢ Some NextLine.Fault }
         ensures within { self.old.count ≤ longest_input }
+        ensures over_below { self.old.ended ≡ true → self.old.count < longest_input }
     {
         let held = &self.window.as_slice()[self.handed..];
         let size = held.len();
@@ -200,6 +203,7 @@ impl Lines {
         ensures short { S.tells → OnErr result (ahead self.new (S.left source.new) ≡ ahead self.old (S.left source.old)) }
         ensures counted { S.tells → self.new.count + length (S.left source.new) ≡ self.old.count + length (S.left source.old) }
         ensures within { self.new.count ≤ longest_input }
+        ensures over_below { self.new.ended ≡ true → self.new.count < longest_input }
         ensures at_end { S.tells → self.new.ended ≡ true → S.left source.new ≡ [] }
         ensures fault { IfOk result (λ next. next ≡ NextLine.Fault → Rose (S.faults source.old) (S.faults source.new)) }
         ensures none_fell { S.faults source.old ≤ S.faults source.new }

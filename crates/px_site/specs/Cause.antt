@@ -10,10 +10,12 @@ pub record Counts : Type 0 where
   pub faults : Fault → ℕ
   pub tell_faults : ℕ
   pub shorts : ℕ
+  -- where the site is a reference to another one, which reference it is
+  pub reference : ℕ
 
 -- before the first call
 abbrev pub no_counts : Counts
-no_counts = record { faults = λ _. 0; tell_faults = 0; shorts = 0 }
+no_counts = record { faults = λ _. 0; tell_faults = 0; shorts = 0; reference = 0 }
 
 -- a count after one more; at the greatest u64 it stands still
 abbrev pub one_more : ℕ → ℕ
@@ -23,10 +25,12 @@ one_more count = min (count + 1) (2 ^ 64 - 1)
 abbrev pub Rose : ℕ → ℕ → Type 0
 Rose before now = one_more before ≤ now
 
+-- no count fell, and no other site was put in the place of a reference
 pub record NoneFell (old new : Counts) : Type 0 where
   pub faults : (fault : Fault) → old.faults fault ≤ new.faults fault
   pub tell_faults : old.tell_faults ≤ new.tell_faults
   pub shorts : old.shorts ≤ new.shorts
+  pub same : new.reference ≡ old.reference
 
 -- an error of file calls has its cause: the count of its kind rose
 pub record HasCause (old new : Counts) (error : SiteError) : Type 0 where
@@ -59,14 +63,14 @@ with_fault kind faults fault = cond (same_fault kind fault) (one_more (faults fa
 -- the counts after the answer of a file call: that of its error is one more, and no other moves
 abbrev pub counts_after : {T : Type 0} → Result T SiteError → Counts → Counts
 counts_after (Ok _) counts = counts
-counts_after (Err OutOfMemory) counts = record { faults = counts.faults; tell_faults = counts.tell_faults; shorts = one_more counts.shorts }
-counts_after (Err (Failed kind)) counts = record { faults = with_fault kind counts.faults; tell_faults = counts.tell_faults; shorts = counts.shorts }
+counts_after (Err OutOfMemory) counts = record counts { shorts = one_more counts.shorts }
+counts_after (Err (Failed kind)) counts = record counts { faults = with_fault kind counts.faults }
 
 -- and after that of `tell`
 abbrev pub counts_after_tell : {T : Type 0} → Result T SiteError → Counts → Counts
 counts_after_tell (Ok _) counts = counts
-counts_after_tell (Err OutOfMemory) counts = record { faults = counts.faults; tell_faults = counts.tell_faults; shorts = one_more counts.shorts }
-counts_after_tell (Err (Failed _)) counts = record { faults = counts.faults; tell_faults = one_more counts.tell_faults; shorts = counts.shorts }
+counts_after_tell (Err OutOfMemory) counts = record counts { shorts = one_more counts.shorts }
+counts_after_tell (Err (Failed _)) counts = record counts { tell_faults = one_more counts.tell_faults }
 
 -- a file call counts what goes wrong, which is want of memory or its own fault
 pub record Counted {T : Type 0} (fault : Fault) (old new : Counts) (result : Result T SiteError) : Type 0 where

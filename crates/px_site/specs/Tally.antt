@@ -15,4 +15,4 @@ faults_of tally List = tally.list
 faults_of tally Tell = 0
 
 abbrev pub counts_of : Counters → Counts
-counts_of tally = record { faults = faults_of tally; tell_faults = tally.tell; shorts = tally.short }
+counts_of tally = record { faults = faults_of tally; tell_faults = tally.tell; shorts = tally.short; reference = 0 }

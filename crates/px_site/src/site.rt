@@ -23,7 +23,8 @@ pub trait Site {
     /// What it tells: the contents as they read, and for this moment and each one before it what a crash then leaves.
     ghost state: { Self → State };
 
-    /// How many calls answered each error.
+    /// How many calls answered each error; of a reference, which one it is too, so that a caller that lends its site
+    /// knows that it is this one which changed.
     ghost counts: { Self → Counts };
 
     /// The file's length in bytes, at most `LONGEST_FILE`. Its fault is `Read`, also for a longer file.
@@ -86,7 +87,7 @@ impl<W: Site> Site for &mut W {
 
     ghost state = { λ site. W.state site.now };
 
-    ghost counts = { λ site. W.counts site.now };
+    ghost counts = { λ site. record (W.counts site.now) { reference = site.ghost_name } };
 
     ghost reads_image = { λ tells site file. W.reads_image tells site.now file };
 

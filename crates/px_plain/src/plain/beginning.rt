@@ -8,7 +8,7 @@ use std::alloc::AllocError;
 
 impl Plain {
     /// Opens a transaction of the session. Its snapshot is what has ended by now.
-    #[tactic(auto, using(crate::proofs::Room::room), unfolding(px_calls::specs::Steps::begins_spent, px_calls::specs::Steps::reply_of, px_calls::specs::Steps::state_when_done, px_calls::specs::Steps::state_after))]
+    #[tactic(auto, using(crate::proofs::Room::room, crate::proofs::Begun::were_begun), unfolding(px_calls::specs::Steps::begins_spent, px_calls::specs::Steps::reply_of, px_calls::specs::Steps::state_when_done, px_calls::specs::Steps::state_after))]
     pub fn begin(&mut self, session: Session) -> Result<Reply, AllocError>
         ensures reply { IfOk result (λ reply. reply ≡ reply_of self.old session Call.Begin) }
         ensures state { OnOk result (self.new ≡ state_after self.old session Call.Begin) }

@@ -42,7 +42,7 @@ impl Plain {
     }
 
     /// Takes the session's transaction out, and enters it among the ended ones where it has writes.
-    #[tactic(auto, using(crate::proofs::Room::room))]
+    #[tactic(auto, using(crate::proofs::Room::room, crate::proofs::Begun::were_begun))]
     fn close(&mut self, session: Session, committed: bool)
         ensures { self.new ≡ closed self.old session committed }
     {

@@ -59,7 +59,7 @@ impl Plain {
     }
 
     /// Adds a row to those that the session's transaction keeps.
-    #[tactic(auto, using(crate::proofs::Room::room))]
+    #[tactic(auto, using(crate::proofs::Room::room, crate::proofs::Begun::were_begun))]
     fn keep(&mut self, session: Session, row: Row) -> Result<(), AllocError>
         ensures ok { OnOk result (self.new ≡ with_slot self.old session (option_map (plus_kept (Some row)) (open_of self.old session))) }
         ensures err { OnErr result (self.new ≡ self.old) }

@@ -111,6 +111,7 @@ impl Plain {
         self.drop_last_write(session);
     }
 
+    #[tactic(auto, using(crate::proofs::Begun::were_begun))]
     fn drop_last_write(&mut self, session: Session)
         ensures { self.new ≡ without_last self.old session }
     {
@@ -165,7 +166,7 @@ impl Plain {
     }
 
     /// Adds a write to the session's own.
-    #[tactic(auto, using(crate::proofs::Room::room))]
+    #[tactic(auto, using(crate::proofs::Room::room, crate::proofs::Begun::were_begun))]
     fn add_write(&mut self, session: Session, write: Write) -> Result<(), AllocError>
         ensures ok { OnOk result (self.new ≡ with_write self.old session write) }
         ensures err { OnErr result (self.new ≡ self.old) }

@@ -32,6 +32,7 @@ invariant_of-self c =
       omega (arith, ap length whole),
       All-same IsOther (take (length slice) (drop w.handed w.window)) slice all (searched-all slice w.searched none c.in-None.ensures),
       c.self.invariant.4,
+      c.self.invariant.5,
     )
 
 pub incomplete-requires-clause-none : goal.incomplete-requires-clause-none
