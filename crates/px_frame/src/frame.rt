@@ -2,7 +2,7 @@ ghost use Rattle.std.specs.Prelude.{◌≡◌, ◌+◌, ◌≤◌, ◌++◌, ℕ
 ghost use Rattle.px_frame.specs.Frame.{CanFrame, FrameAt, frame};
 
 use crate::header::Header;
-use px_bytes::{fnv, fnv_on, put_u32, put_u64};
+use px_bytes::{fnv, fnv_on};
 use std::alloc::AllocError;
 
 /// The bytes in front of a payload: length, sum and number.
@@ -32,16 +32,28 @@ pub fn write_frame(out: &mut Vec<u8>, number: u64, payload: &[u8]) -> Result<(),
 }
 
 /// The same, but without memory a part of the frame may stay.
-#[tactic(auto, unfolding(crate::specs::Frame::frame))]
 fn append_frame(out: &mut Vec<u8>, number: u64, payload: &[u8]) -> Result<(), AllocError>
     requires { length payload.now ≤ LONGEST_PAYLOAD }
     ensures ok { OnOk result (out.new.items ≡ out.old.items ++ frame number payload.now) }
     ensures err { OnErr result (take (length out.old.items) out.new.items ≡ out.old.items) }
 {
-    put_u32(out, payload.len() as u32)?;
-    put_u32(out, fnv_on(fnv(&number.to_be_bytes()), payload))?;
-    put_u64(out, number)?;
+    out.extend_from_slice(&frame_header(number, payload))?;
     out.extend_from_slice(payload)
+}
+
+/// What stands in front of the payload in its frame with that number. It takes no memory.
+#[tactic(auto, unfolding(crate::specs::Frame::frame))]
+pub fn frame_header(number: u64, payload: &[u8]) -> [u8; HEADER_SIZE]
+    requires { length payload.now ≤ LONGEST_PAYLOAD }
+    ensures { result ++ payload.now ≡ frame number payload.now }
+{
+    let l = (payload.len() as u32).to_be_bytes();
+    let n = number.to_be_bytes();
+    let s = fnv_on(fnv(&n), payload).to_be_bytes();
+    [
+        l[0], l[1], l[2], l[3], s[0], s[1], s[2], s[3], n[0], n[1], n[2], n[3], n[4], n[5], n[6],
+        n[7],
+    ]
 }
 
 /// The payload of the frame that checks at the front of the bytes for that number, and the size of the

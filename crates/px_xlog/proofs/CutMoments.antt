@@ -1,6 +1,7 @@
 -- The moments at which a log is cut.
 use Rattle.std.proofs.Common.{◌≡◌, ℕ, List, length, take, drop, Result, Ok, refl, sym, ap, subst, ◌∙◌, inl, inr}
 use Rattle.std.proofs.lemmas.List.{take_at}
+use Rattle.std.specs.Prelude.{⊤}
 use Rattle.px_site.specs.declared.name.FileName.{FileName}
 use Rattle.px_site.specs.declared.error.SiteError.{SiteError}
 use Rattle.px_site.specs.Disk.{Cut, FileState, IsImage, at_rest}
@@ -38,16 +39,16 @@ cut_left {T} {U} {file} {len} {s0} {s1} {s2} {x} {y} there cut syncs =
 
 -- ---- as a whole
 
-scan_here : (content : List ℕ) (tables : ℕ) (changes : List Change) (stop count : ℕ) → ScansTo content tables changes stop count → stop ≡ length (frames 0 (frames_of content 0))
+scan_here : (content : List ℕ) (changes : List Change) (stop : ℕ) → ScansTo content changes stop → stop ≡ length (frames 0 (frames_of content 0))
 unfolding log_text
-scan_here content tables changes stop count scan = scan.place ∙ ap (λ (ps : List (List ℕ)). length (frames 0 ps)) (sym scan.scanned)
+scan_here content changes stop scan = scan.place ∙ ap (λ (ps : List (List ℕ)). length (frames 0 ps)) (sym scan.scanned)
 
-log_scanned : (content : List ℕ) (tables : ℕ) (changes : List Change) (stop count : ℕ) → ScansTo content tables changes stop count → log_text changes ≡ frames 0 (frames_of content 0)
+log_scanned : (content : List ℕ) (changes : List Change) (stop : ℕ) → ScansTo content changes stop → log_text changes ≡ frames 0 (frames_of content 0)
 unfolding log_text
-log_scanned content tables changes stop count scan = ap (frames 0) (sym scan.scanned)
+log_scanned content changes stop scan = ap (frames 0) (sym scan.scanned)
 
-taken : (content : List ℕ) (tables : ℕ) (changes : List Change) (stop count : ℕ) → ScansTo content tables changes stop count → take stop content ≡ log_text changes
-taken content tables changes stop count scan = ap (take stop) scan.front ∙ take_at (log_text changes) (drop stop content) stop (sym scan.place)
+taken : (content : List ℕ) (changes : List Change) (stop : ℕ) → ScansTo content changes stop → take stop content ≡ log_text changes
+taken content changes stop scan = ap (take stop) scan.front ∙ take_at (log_text changes) (drop stop content) stop (sym scan.place)
 
 cutting_reads : (file : FileState) (content : List ℕ) (len : ℕ) (f : FileState) → IsCut file content len → take len content ≡ frames 0 (frames_of content 0) → IsCutting len file content f → ReadsAsBefore file f
 cutting_reads file content len f cut front cutting = elim cutting.which [
@@ -58,19 +59,25 @@ cutting_reads file content len f cut front cutting = elim cutting.which [
   })
 ]
 
-pub opening_moments : (s0 s1 s2 : State) (tables : ℕ) (changes : List Change) (stop count : ℕ) → s1 ≡ s0 → IsImage (s0.now.files the_log) (s0.content the_log) → OnlyGrew (s0.now.files the_log) (s0.content the_log)
-    → ScansTo (s0.content the_log) tables changes stop count → EachMoment (OnFile the_log s1.now (IsCutting stop (s1.now.files the_log) (s1.content the_log))) s1 s2
+pub opening_moments : (s0 s1 s2 : State) (changes : List Change) (stop : ℕ) → s1 ≡ s0 → IsImage (s0.now.files the_log) (s0.content the_log) → OnlyGrew (s0.now.files the_log) (s0.content the_log)
+    → ScansTo (s0.content the_log) changes stop → EachMoment (OnFile the_log s1.now (IsCutting stop (s1.now.files the_log) (s1.content the_log))) s1 s2
     → EachMoment (OnFile the_log s0.now (ReadsAsBefore (s0.now.files the_log))) s0 s2
-opening_moments s0 s1 s2 tables changes stop count same reads grew scan moments =
+opening_moments s0 s1 s2 changes stop same reads grew scan moments =
     let file = s0.now.files the_log in
     let content = s0.content the_log in
-    let cut : IsCut file content stop = record { behind = grew.behind; reads = reads; plain = grew.plain; here = scan_here content tables changes stop count scan } in
-    let front = taken content tables changes stop count scan ∙ log_scanned content tables changes stop count scan in
+    let cut : IsCut file content stop = record { behind = grew.behind; reads = reads; plain = grew.plain; here = scan_here content changes stop scan } in
+    let front = taken content changes stop scan ∙ log_scanned content changes stop scan in
     let here = subst (λ (s : State). EachMoment (OnFile the_log s.now (IsCutting stop (s.now.files the_log) (s.content the_log))) s s2) same moments in
     weaker_moments (λ m on. record { this = cutting_reads file content stop (m.files the_log) cut front on.this; others = on.others; told = on.told; telling = on.telling }) here
 
-pub opening_left : (s0 s1 s2 : State) (tables : ℕ) (changes : List Change) (stop count : ℕ) → s1 ≡ s0 → ScansTo (s0.content the_log) tables changes stop count
+pub opening_left : (s0 s1 s2 : State) (changes : List Change) (stop : ℕ) → s1 ≡ s0 → ScansTo (s0.content the_log) changes stop
     → Stands the_log s1 (at_rest (take stop (s1.content the_log))) (take stop (s1.content the_log)) s2 → Stands the_log s0 (at_rest (log_text changes)) (log_text changes) s2
-opening_left s0 s1 s2 tables changes stop count same scan left =
+opening_left s0 s1 s2 changes stop same scan left =
     let here = subst (λ (s : State). Stands the_log s (at_rest (take stop (s.content the_log))) (take stop (s.content the_log)) s2) same left in
-    subst (λ (b : List ℕ). Stands the_log s0 (at_rest b) b s2) (taken (s0.content the_log) tables changes stop count scan) here
+    subst (λ (b : List ℕ). Stands the_log s0 (at_rest b) b s2) (taken (s0.content the_log) changes stop scan) here
+
+-- whatever the log's file is then
+pub alone_moments : (P : State → FileState → Type 0) {s0 s1 s2 : State} → s1 ≡ s0 → EachMoment (OnFile the_log s1.now (P s1)) s1 s2 → EachMoment (OnFile the_log s0.now (λ file. ⊤)) s0 s2
+alone_moments P {s0} {s1} {s2} same moments =
+    let here = subst (λ (s : State). EachMoment (OnFile the_log s.now (P s)) s s2) same moments in
+    weaker_moments (λ m on. record { this = tt; others = on.others; told = on.told; telling = on.telling }) here

@@ -1,5 +1,5 @@
 -- The loop that reads the log.
-use Rattle.std.proofs.Common.{◌≡◌, ℕ, ◌+◌, true, List, [], ◌∷◌, ◌++◌, length, map, drop, None, refl, sym, ap, subst, ◌∙◌, arith}
+use Rattle.std.proofs.Common.{◌≡◌, ℕ, ◌+◌, true, List, [], ◌∷◌, ◌++◌, length, map, drop, None, sym, ap, subst, ◌∙◌, arith}
 use Rattle.px_frame.specs.Frame.{FrameAt, payload_at}
 use Rattle.px_frame.proofs.Frames.{payload_at-again, payload_at-none}
 use Rattle.px_scan.specs.Scan.{frames, frames_of}
@@ -18,10 +18,8 @@ use Rattle.px_xlog.proofs.Windows.{shown, shown_frame}
 
 -- ---- one frame
 
-pub next_shown : (rest bytes : List ℕ) (tables number : ℕ) (payload : List ℕ) (size : ℕ) (change : Change) → Shows rest bytes → FrameAt bytes number payload → size ≡ 16 + length payload
-    → may_hold tables number change ≡ true → payload ≡ change_text change → IsNext rest tables number change size
-next_shown rest bytes tables number payload size change shows at sized held is = record {
-  held = held;
+pub next_shown : (rest bytes : List ℕ) (number : ℕ) (payload : List ℕ) (size : ℕ) (change : Change) → Shows rest bytes → FrameAt bytes number payload → size ≡ 16 + length payload → payload ≡ change_text change → IsNext rest number change size
+next_shown rest bytes number payload size change shows at sized is = record {
   frame = subst (FrameAt rest number) is (shown_frame rest bytes number payload shows at);
   size_is = sized ∙ ap (λ (p : List ℕ). 16 + length p) is;
 }
@@ -35,27 +33,30 @@ none_shown rest bytes number shows none = sym (shown rest bytes number shows) �
 -- ---- all of them
 
 -- so many changes were read, and the next frame is looked for at this place
-pub record IsReading (content : List ℕ) (tables : ℕ) (changes : List Change) (stop count : ℕ) : Type 0 where
+pub record IsReading (content : List ℕ) (changes : List Change) (stop count : ℕ) : Type 0 where
   pub scanning : IsScanning content 0 (map change_text changes) stop count
-  pub held : may_hold_all tables 0 changes ≡ true
 
-pub reading_begins : (content : List ℕ) (tables : ℕ) → IsReading content tables [] 0 0
-reading_begins content tables = record { scanning = scan_begins content 0; held = refl }
+pub reading_begins : (content : List ℕ) → IsReading content [] 0 0
+reading_begins content = record { scanning = scan_begins content 0 }
 
-pub reading_goes_on : (content : List ℕ) (tables : ℕ) (changes : List Change) (stop count : ℕ) (change : Change) (size : ℕ) → IsReading content tables changes stop count → IsNext (drop stop content) tables count change size
-    → IsReading content tables (changes ++ change ∷ []) (stop + size) (count + 1)
-reading_goes_on content tables changes stop count change size reading next =
-    let many : count ≡ 0 + length changes = omega (arith, reading.scanning.numbered, length-map-text changes) in
+pub reading_goes_on : (content : List ℕ) (changes : List Change) (stop count : ℕ) (change : Change) (size : ℕ) → IsReading content changes stop count → IsNext (drop stop content) count change size
+    → IsReading content (changes ++ change ∷ []) (stop + size) (count + 1)
+reading_goes_on content changes stop count change size reading next =
     let on = scan_goes_on content 0 (map change_text changes) stop count (change_text change) reading.scanning next.frame in
     record {
       scanning = subst (λ (ps : List (List ℕ)). IsScanning content 0 ps (stop + size) (count + 1)) (sym (map_push_one changes change))
           (subst (λ (n : ℕ). IsScanning content 0 (map change_text changes ++ change_text change ∷ []) (stop + n) (count + 1)) (sym next.size_is) on);
-      held = hold_more tables 0 changes change reading.held (subst (λ (n : ℕ). may_hold tables n change ≡ true) many next.held);
     }
 
-pub reading_ends : (content : List ℕ) (tables : ℕ) (changes : List Change) (stop count : ℕ) → IsReading content tables changes stop count → payload_at (drop stop content) count ≡ None → ScansTo content tables changes stop count
+-- each of them is held, and so is the next
+pub held_goes_on : (tables : ℕ) (changes : List Change) (count : ℕ) (change : Change) → may_hold_all tables 0 changes ≡ true → count ≡ length changes → may_hold tables count change ≡ true → may_hold_all tables 0 (changes ++ change ∷ []) ≡ true
+held_goes_on tables changes count change held many next =
+    let here : count ≡ 0 + length changes = omega (arith, many) in
+    hold_more tables 0 changes change held (subst (λ (n : ℕ). may_hold tables n change ≡ true) here next)
+
+pub reading_ends : (content : List ℕ) (changes : List Change) (stop count : ℕ) → IsReading content changes stop count → payload_at (drop stop content) count ≡ None → ScansTo content changes stop
 unfolding log_text
-reading_ends content tables changes stop count reading none =
+reading_ends content changes stop count reading none =
     let scan = is_scan content 0 in
     let ps = frames_of content 0 in
     let all : map change_text changes ≡ ps = scan_ends content 0 (map change_text changes) stop count reading.scanning none in
@@ -63,16 +64,14 @@ reading_ends content tables changes stop count reading none =
     let left : drop stop content ≡ scan.0 = ap (drop stop) scan.1.front ∙ drop_at (frames 0 ps) scan.0 stop size in
     record {
       scanned = sym all;
-      held = reading.held;
       front = scan.1.front ∙ ap (λ (rest : List ℕ). frames 0 ps ++ rest) (sym left) ∙ ap (λ (qs : List (List ℕ)). frames 0 qs ++ drop stop content) (sym all);
       place = reading.scanning.place;
-      count = omega (arith, reading.scanning.numbered, length-map-text changes);
     }
 
 -- where the next frame is foreign, the log is damaged there
-pub reading_damaged : (content : List ℕ) (tables : ℕ) (changes : List Change) (stop count : ℕ) → IsReading content tables changes stop count → HasForeign (drop stop content) tables count → HoldsNone tables content stop
+pub reading_damaged : (content : List ℕ) (tables : ℕ) (changes : List Change) (stop count : ℕ) → IsReading content changes stop count → may_hold_all tables 0 changes ≡ true → HasForeign (drop stop content) tables count → HoldsNone tables content stop
 unfolding log_text
-reading_damaged content tables changes stop count reading has =
+reading_damaged content tables changes stop count reading held has =
     let many : count ≡ length changes = omega (arith, reading.scanning.numbered, length-map-text changes) in
     let found = payload_at-again (drop stop content) count has.payload has.frame in
     record {
@@ -80,15 +79,15 @@ reading_damaged content tables changes stop count reading has =
       payload = has.payload;
       others = frames_of (drop (16 + length has.payload) (drop stop content)) (count + 1);
       scanned = sym reading.scanning.whole ∙ ap (λ (ps : List (List ℕ)). map change_text changes ++ ps) (frames_of-step (drop stop content) count has.payload found);
-      held = reading.held;
+      held = held;
       none = λ change ok. has.foreign change (subst (λ (n : ℕ). may_hold tables n change ≡ true) (sym many) ok);
       at = reading.scanning.place;
     }
 
 -- what the next frame's error says of the whole log
-pub damage_found : (content : List ℕ) (tables : ℕ) (changes : List Change) (stop count : ℕ) (error : LogError) → IsReading content tables changes stop count → FindsForeign (drop stop content) tables count stop error → FindsDamage tables content error
-damage_found content tables changes stop count OutOfMemory reading finds = tt
-damage_found content tables changes stop count (FaultOf fault) reading finds = tt
-damage_found content tables changes stop count (Damaged file place) reading finds =
-    (finds.0, subst (HoldsNone tables content) (sym finds.1) (reading_damaged content tables changes stop count reading finds.2))
-damage_found content tables changes stop count (LogFull n) reading finds = tt
+pub damage_found : (content : List ℕ) (tables : ℕ) (changes : List Change) (stop count : ℕ) (error : LogError) → IsReading content changes stop count → may_hold_all tables 0 changes ≡ true → FindsForeign (drop stop content) tables count stop error → FindsDamage tables content error
+damage_found content tables changes stop count OutOfMemory reading held finds = tt
+damage_found content tables changes stop count (FaultOf fault) reading held finds = tt
+damage_found content tables changes stop count (Damaged file place) reading held finds =
+    (finds.0, subst (HoldsNone tables content) (sym finds.1) (reading_damaged content tables changes stop count reading held finds.2))
+damage_found content tables changes stop count (LogFull n) reading held finds = tt

@@ -1,8 +1,7 @@
 -- What is read through a window is what stands in the file.
-use Rattle.std.proofs.Common.{◌≡◌, ◌⊎◌, ℕ, ◌+◌, ◌-◌, ◌<◌, ◌≤◌, min, Bool, true, nat_lt, List, ◌++◌, length, take, drop, Option, Some, None, refl, sym, ap, ◌∙◌, append_assoc, arith, inl, inr, length-take, length-drop}
+use Rattle.std.proofs.Common.{◌≡◌, ◌⊎◌, ℕ, ◌+◌, ◌-◌, ◌≤◌, true, nat_lt, List, ◌++◌, length, take, drop, Option, Some, None, refl, sym, ap, ◌∙◌, append_assoc, arith, inl, inr, length-take, length-drop}
 use Rattle.std.proofs.lemmas.Bool.{cases_lt, lt-ltb}
 use Rattle.std.proofs.lemmas.List.{take_at, drop_at, take-append-drop, drop-take, drop-drop, take-append-le}
-use Rattle.px_site.specs.State.{Reads}
 use Rattle.px_frame.specs.Frame.{frame, FrameAt, payload_at}
 use Rattle.px_frame.proofs.Frames.{length-frame, frame_long, payload_at-found, payload_at-again, payload_at-none}
 use Rattle.px_xlog.specs.Window.{Seen, Sees, Covers, Shows, longest_frame}
@@ -67,20 +66,6 @@ window_shows content seen place bytes sees covers is =
         | inr ended ↦ inr (omega (arith, sees.ended ended, total, ap length (sym later), length-drop skip (drop seen.place content)))
       ];
     }
-
--- what a read gives is a window
-pub read_sees : (content : List ℕ) (place : ℕ) (buffer : List ℕ) (n : ℕ) (ended : Bool) → Reads content place buffer n → (ended ≡ true → n < length buffer) → Sees content (record { place = place; bytes = take n buffer; ended = ended })
-read_sees content place buffer n ended reads short =
-    let rest = drop place content in
-    let count : n ≡ min (length buffer) (length rest) = reads.count in
-    let size : length (take n buffer) ≡ n = omega (arith, length-take n buffer) in
-    record {
-      bytes = reads.bytes ∙ ap (λ (k : ℕ). take k rest) (sym size);
-      ended = λ e. let less = short e in omega (arith, size, less);
-    }
-
-pub sees_nothing : (content : List ℕ) (place : ℕ) (buffer : List ℕ) (ended : Bool) → (ended ≡ true → ⊥) → Sees content (record { place = place; bytes = take 0 buffer; ended = ended })
-sees_nothing content place buffer ended open_still = record { bytes = refl; ended = λ e. absurd (open_still e) }
 
 -- a read into a buffer that holds each frame covers the place
 pub read_covers : (place : ℕ) (buffer : List ℕ) (n room : ℕ) → n ≤ length buffer → room ≡ length buffer → longest_frame ≤ room → Covers place (record { place = place; bytes = take n buffer; ended = nat_lt n room })

@@ -5,16 +5,15 @@ use Rattle.px_scan.specs.Scan.{frames_of}
 use Rattle.px_xlog.specs.declared.change.Change.{Change}
 use Rattle.px_xlog.specs.declared.error.LogError.{LogError}
 use Rattle.px_xlog.specs.declared.error.LogError.TheVariants.{OutOfMemory, Fault as FaultOf, Damaged, LogFull}
-use Rattle.px_xlog.specs.Payload.{change_text, may_hold, may_hold_all}
+use Rattle.px_xlog.specs.Payload.{change_text, may_hold}
 use Rattle.px_xlog.specs.Reading.{the_log, log_text, HoldsNone}
 
 -- the payload is no change that this frame may hold
 abbrev pub IsForeign : (tables number : ℕ) → List ℕ → Type 0
 IsForeign tables number payload = (change : Change) → may_hold tables number change ≡ true → payload ≢ change_text change
 
--- a frame of this change, which it may hold, stands at the front of the rest
-pub record IsNext (rest : List ℕ) (tables number : ℕ) (change : Change) (size : ℕ) : Type 0 where
-  pub held : may_hold tables number change ≡ true
+-- a frame of this change stands at the front of the rest
+pub record IsNext (rest : List ℕ) (number : ℕ) (change : Change) (size : ℕ) : Type 0 where
   pub frame : FrameAt rest number (change_text change)
   pub size_is : size ≡ 16 + length (change_text change)
 
@@ -39,9 +38,7 @@ FindsDamage tables content (Damaged file place) = (file ≡ the_log) × HoldsNon
 FindsDamage tables content (LogFull n) = Unit {0}
 
 -- the scan of the content gives these changes, and stops there
-pub record ScansTo (content : List ℕ) (tables : ℕ) (changes : List Change) (stop frames : ℕ) : Type 0 where
+pub record ScansTo (content : List ℕ) (changes : List Change) (stop : ℕ) : Type 0 where
   pub scanned : frames_of content 0 ≡ map change_text changes
-  pub held : may_hold_all tables 0 changes ≡ true
   pub front : content ≡ log_text changes ++ drop stop content
   pub place : stop ≡ length (log_text changes)
-  pub count : frames ≡ length changes

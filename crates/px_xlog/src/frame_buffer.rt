@@ -5,13 +5,12 @@ ghost use Rattle.px_xlog.specs.Payload.{change_text, head, is_change};
 
 use crate::Change;
 use crate::payload::{END_SIZE, KIND_COMMIT, KIND_ROLLBACK, end_bytes, put_change};
-use px_bytes::{fnv, fnv_on};
-use px_frame::write_frame;
+use px_frame::{HEADER_SIZE, frame_header, write_frame};
 use std::alloc::{AllocError, Global};
 use std::marker::Model;
 
 /// The bytes of a frame without a row.
-const END_FRAME_SIZE: usize = 34;
+const END_FRAME_SIZE: usize = HEADER_SIZE + END_SIZE;
 
 /// The bytes of one frame. Their memory is used again for the next frame. The frame of an end takes none, so that a
 /// commit or a rollback is never refused for want of it.
@@ -32,7 +31,9 @@ impl Model for FrameBuffer {
 }
 
 impl FrameBuffer {
-    pub fn new(alloc: Global) -> FrameBuffer {
+    pub fn new(alloc: Global) -> FrameBuffer
+        ensures { result ≡ [] }
+    {
         FrameBuffer {
             payload: Vec::new(alloc),
             bytes: Vec::new(alloc),
@@ -95,13 +96,10 @@ impl FrameBuffer {
 fn end_frame(number: u64, kind: u8, xn: u64, commit: u64) -> [u8; END_FRAME_SIZE]
     ensures { result ≡ frame number (head kind xn commit ++ 0 ∷ []) }
 {
-    let p = end_bytes(kind, xn, commit);
-    let l = (END_SIZE as u32).to_be_bytes();
-    let n = number.to_be_bytes();
-    let s = fnv_on(fnv(&n), &p).to_be_bytes();
-    [
-        l[0], l[1], l[2], l[3], s[0], s[1], s[2], s[3], n[0], n[1], n[2], n[3], n[4], n[5], n[6],
-        n[7], p[0], p[1], p[2], p[3], p[4], p[5], p[6], p[7], p[8], p[9], p[10], p[11], p[12],
-        p[13], p[14], p[15], p[16], p[17],
-    ]
+    let payload = end_bytes(kind, xn, commit);
+    let header = frame_header(number, &payload);
+    let mut frame = [0; END_FRAME_SIZE];
+    frame[..HEADER_SIZE].copy_from_slice(&header);
+    frame[HEADER_SIZE..].copy_from_slice(&payload);
+    frame
 }

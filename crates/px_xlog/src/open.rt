@@ -1,11 +1,12 @@
-ghost use Rattle.std.specs.Prelude.{◌≡◌, ℕ, ◌*◌, ◌^◌, ◌≤◌, List, take, IfOk, IfErr, OnOk};
+ghost use Rattle.std.specs.Prelude.{◌≡◌, ⊤, ℕ, ◌*◌, ◌^◌, ◌≤◌, true, List, length, take, IfOk, IfErr, OnOk};
 ghost use Rattle.px_model.specs.declared.row.Row.{Row};
 ghost use Rattle.px_site.specs.Cause.{NoneFell};
 ghost use Rattle.px_site.specs.Disk.{at_rest};
 ghost use Rattle.px_site.specs.State.{EachMoment, OnFile, Stands};
-ghost use Rattle.px_xlog.specs.Errors.{CountsLogFault, HasOpenCause, IsOfSite, LeavesSite};
+ghost use Rattle.px_xlog.specs.Errors.{CountsLogFault, HasOpenCause, IsFileFault, IsOfSite, LeavesSite};
 ghost use Rattle.px_xlog.specs.Images.{KeepsStanding, Settled};
 ghost use Rattle.px_xlog.specs.Log.{IsCutting, IsLogOf, OnlyGrew, ReadsAsBefore};
+ghost use Rattle.px_xlog.specs.Payload.{may_hold_all};
 ghost use Rattle.px_xlog.specs.Reading.{Scans, log_text, the_log};
 ghost use Rattle.px_xlog.specs.Scanning.{ScansTo};
 ghost use Rattle.px_xlog.specs.Window.{longest_frame};
@@ -18,13 +19,18 @@ use px_site::Site;
 use std::alloc::Global;
 
 /// Reads the log from its first frame on, cuts what is torn behind its last frame, and makes the cut durable. Damaged
-/// where the reading stops below the restart's `durable`, or where the payload of a frame is no change that it may hold.
+/// where the reading stops below the restart's `durable`, or where the payload of a frame is no change that it may hold;
+/// OutOfMemory where the call or the site wants memory. Damaged leaves the site as it was, and so does want of the
+/// call's own memory; another error may come behind the cut.
 pub fn open_log<W: Site>(
     alloc: Global,
     site: &mut W,
     restart: &Restart,
 ) -> Result<(Xlog, ChangeList), LogError>
     ensures read { W.tells → IfOk result (λ opened. Scans restart.now ((W.state site.old).content the_log) opened.1) }
+    ensures held { IfOk result (λ opened. may_hold_all restart.now.tables 0 opened.1 ≡ true) }
+    ensures count { IfOk result (λ opened. opened.0.frames ≡ length opened.1) }
+    ensures below { IfOk result (λ opened. opened.0.frames ≤ 2 ^ 48) }
     ensures marks { IfOk result (λ opened. (opened.0.tables ≡ restart.now.tables) × (opened.0.durable ≡ opened.0.frames)) }
     ensures logged { W.tells → IfOk result (λ opened. IsLogOf opened.0 opened.1 (W.state site.new)) }
     ensures left { W.tells → IfOk result (λ opened.
@@ -32,10 +38,12 @@ pub fn open_log<W: Site>(
     ensures untouched { W.tells → IfErr result (λ error. LeavesSite (W.state site.old) (W.state site.new) (W.counts site.old) (W.counts site.new) error) }
     ensures moments { W.tells → OnlyGrew ((W.state site.old).now.files the_log) ((W.state site.old).content the_log)
         → EachMoment (OnFile the_log (W.state site.old).now (ReadsAsBefore ((W.state site.old).now.files the_log))) (W.state site.old) (W.state site.new) }
+    ensures log_alone { W.tells → EachMoment (OnFile the_log (W.state site.old).now (λ file. ⊤)) (W.state site.old) (W.state site.new) }
     ensures standing { W.tells → (commits : ℕ) (rows : List Row) → Settled (W.state site.old) commits rows
         → EachMoment (KeepsStanding commits rows (W.state site.old).now) (W.state site.old) (W.state site.new) }
     ensures none_fell { NoneFell (W.counts site.old) (W.counts site.new) }
     ensures fault { IfErr result (CountsLogFault (W.counts site.old) (W.counts site.new)) }
+    ensures own { IfErr result IsFileFault }
     ensures cause { W.tells → IfErr result (HasOpenCause restart.now (W.state site.old).content (W.counts site.old) (W.counts site.new)) }
 {
     let scan = recover(alloc, site, restart)?;
@@ -44,7 +52,9 @@ pub fn open_log<W: Site>(
 }
 
 fn recover<W: Site>(alloc: Global, site: &mut W, restart: &Restart) -> Result<LogScan, LogError>
-    ensures scan { W.tells → IfOk result (λ scan. ScansTo ((W.state site.old).content the_log) restart.now.tables scan.changes scan.stop scan.frames) }
+    ensures scan { W.tells → IfOk result (λ scan. ScansTo ((W.state site.old).content the_log) scan.changes scan.stop) }
+    ensures held { IfOk result (λ scan. may_hold_all restart.now.tables 0 scan.changes ≡ true) }
+    ensures count { IfOk result (λ scan. scan.frames ≡ length scan.changes) }
     ensures reached { IfOk result (λ scan. restart.now.durable ≤ scan.frames) }
     ensures small { IfOk result (λ scan. (scan.stop ≤ longest_frame * scan.frames) × (scan.frames ≤ 2 ^ 48)) }
     ensures left { W.tells → IfOk result (λ scan.
@@ -52,8 +62,10 @@ fn recover<W: Site>(alloc: Global, site: &mut W, restart: &Restart) -> Result<Lo
     ensures untouched { W.tells → IfErr result (λ error. LeavesSite (W.state site.old) (W.state site.new) (W.counts site.old) (W.counts site.new) error) }
     ensures moments { W.tells → OnlyGrew ((W.state site.old).now.files the_log) ((W.state site.old).content the_log)
         → EachMoment (OnFile the_log (W.state site.old).now (ReadsAsBefore ((W.state site.old).now.files the_log))) (W.state site.old) (W.state site.new) }
+    ensures log_alone { W.tells → EachMoment (OnFile the_log (W.state site.old).now (λ file. ⊤)) (W.state site.old) (W.state site.new) }
     ensures none_fell { NoneFell (W.counts site.old) (W.counts site.new) }
     ensures fault { IfErr result (CountsLogFault (W.counts site.old) (W.counts site.new)) }
+    ensures own { IfErr result IsFileFault }
     ensures cause { W.tells → IfErr result (HasOpenCause restart.now (W.state site.old).content (W.counts site.old) (W.counts site.new)) }
 {
     let scan = read_log(alloc, site, restart.tables)?;
@@ -77,6 +89,7 @@ fn cut_log<W: Site>(site: &mut W, stop: u64) -> Result<(), LogError>
     ensures untouched { W.tells → IfErr result (λ error. LeavesSite (W.state site.old) (W.state site.new) (W.counts site.old) (W.counts site.new) error) }
     ensures none_fell { NoneFell (W.counts site.old) (W.counts site.new) }
     ensures cause { IfErr result (IsOfSite (W.counts site.old) (W.counts site.new)) }
+    ensures own { IfErr result IsFileFault }
 {
     let file = log_file();
     site.cut(file, stop)?;

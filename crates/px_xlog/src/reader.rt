@@ -1,8 +1,8 @@
-ghost use Rattle.std.specs.Prelude.{◌≡◌, ◌*◌, ◌<◌, ◌^◌, ◌≤◌, true, drop, None, IfOk, IfErr, IfSome, IfNone, OnOk};
+ghost use Rattle.std.specs.Prelude.{◌≡◌, ◌*◌, ◌<◌, ◌^◌, ◌≤◌, true, drop, length, None, IfOk, IfErr, IfSome, IfNone, OnOk};
 ghost use Rattle.px_site.specs.Cause.{NoneFell};
 ghost use Rattle.px_frame.specs.Frame.{payload_at};
-ghost use Rattle.px_xlog.specs.Errors.{CountsLogFault};
-ghost use Rattle.px_xlog.specs.Payload.{change_text, may_hold};
+ghost use Rattle.px_xlog.specs.Errors.{CountsLogFault, IsFileFault};
+ghost use Rattle.px_xlog.specs.Payload.{change_text, may_hold, may_hold_all};
 ghost use Rattle.px_xlog.specs.Reading.{the_log};
 ghost use Rattle.px_xlog.specs.Scanning.{FindsDamage, FindsForeign, IsForeign, IsNext, ScansTo};
 ghost use Rattle.px_xlog.specs.Window.{Sees, longest_frame};
@@ -26,10 +26,13 @@ pub struct LogScan {
 /// Reads the log's frames from the first one on, while they check. Damaged exactly where one of them is read whose
 /// payload isn't a change that it may hold.
 pub fn read_log<W: Site>(alloc: Global, site: &mut W, tables: u32) -> Result<LogScan, LogError>
-    ensures scan { W.tells → IfOk result (λ scan. ScansTo ((W.state site.old).content the_log) tables scan.changes scan.stop scan.frames) }
+    ensures scan { W.tells → IfOk result (λ scan. ScansTo ((W.state site.old).content the_log) scan.changes scan.stop) }
+    ensures held { IfOk result (λ scan. may_hold_all tables 0 scan.changes ≡ true) }
+    ensures count { IfOk result (λ scan. scan.frames ≡ length scan.changes) }
     ensures small { IfOk result (λ scan. (scan.stop ≤ longest_frame * scan.frames) × (scan.frames ≤ 2 ^ 48)) }
     ensures same { W.tells → W.state site.new ≡ W.state site.old }
     ensures fault { IfErr result (CountsLogFault (W.counts site.old) (W.counts site.new)) }
+    ensures own { IfErr result IsFileFault }
     ensures damage { W.tells → IfErr result (FindsDamage tables ((W.state site.old).content the_log)) }
     ensures none_fell { NoneFell (W.counts site.old) (W.counts site.new) }
 {
@@ -60,7 +63,8 @@ fn next_change<W: Site>(
 ) -> Result<Option<(Change, u64)>, LogError>
     requires { place ≤ 2 ^ 62 }
     ensures next { W.tells → Sees ((W.state site.old).content the_log) window.old
-        → IfOk result (λ next. IfSome next (λ f. IsNext (drop place ((W.state site.old).content the_log)) tables number f.0 f.1)) }
+        → IfOk result (λ next. IfSome next (λ f. IsNext (drop place ((W.state site.old).content the_log)) number f.0 f.1)) }
+    ensures held { IfOk result (λ next. IfSome next (λ f. may_hold tables number f.0 ≡ true)) }
     ensures small { IfOk result (λ next. IfSome next (λ f. (number < 2 ^ 48) × (f.1 ≤ longest_frame))) }
     ensures stops { W.tells → Sees ((W.state site.old).content the_log) window.old
         → IfOk result (λ next. IfNone next (payload_at (drop place ((W.state site.old).content the_log)) number ≡ None)) }
@@ -68,6 +72,7 @@ fn next_change<W: Site>(
         → OnOk result (Sees ((W.state site.old).content the_log) window.new) }
     ensures same { W.tells → W.state site.new ≡ W.state site.old }
     ensures fault { IfErr result (CountsLogFault (W.counts site.old) (W.counts site.new)) }
+    ensures own { IfErr result IsFileFault }
     ensures damage { W.tells → Sees ((W.state site.old).content the_log) window.old
         → IfErr result (FindsForeign (drop place ((W.state site.old).content the_log)) tables number place) }
     ensures none_fell { NoneFell (W.counts site.old) (W.counts site.new) }

@@ -1,6 +1,6 @@
 ghost use Rattle.std.specs.Prelude.{◌≡◌, ◌↔◌, ◌-◌, ◌^◌, ◌≤◌, ℕ, List, [], drop, IfOk, IfErr, OnOk, IsTrue};
 ghost use Rattle.px_site.specs.Cause.{NoneFell};
-ghost use Rattle.px_xlog.specs.Errors.{IsOfSite};
+ghost use Rattle.px_xlog.specs.Errors.{IsFileFault, IsOfSite};
 ghost use Rattle.px_xlog.specs.Reading.{the_log};
 ghost use Rattle.px_xlog.specs.Window.{Covers, Sees};
 
@@ -58,6 +58,7 @@ impl Window {
             → OnOk result (Sees ((W.state site.old).content the_log) self.new) }
         ensures same { W.tells → W.state site.new ≡ W.state site.old }
         ensures cause { IfErr result (IsOfSite (W.counts site.old) (W.counts site.new)) }
+        ensures own { IfErr result IsFileFault }
         ensures none_fell { NoneFell (W.counts site.old) (W.counts site.new) }
     {
         if self.has_covered(place) {

@@ -1,7 +1,7 @@
-ghost use Rattle.std.specs.Prelude.{◌≡◌, ℕ, ◌-◌, ◌*◌, ◌^◌, ◌<◌, ◌≤◌, true, if◌then◌else◌, List, [], ◌∷◌, ◌++◌, Some, IfOk, IfErr, IsErrOf, OnOk, OnErr};
+ghost use Rattle.std.specs.Prelude.{◌≡◌, ℕ, ◌-◌, ◌*◌, ◌^◌, ◌≤◌, true, if◌then◌else◌, List, [], ◌∷◌, ◌++◌, Some, IfOk, IfErr, IsErrOf, OnOk, OnErr};
 ghost use Rattle.px_site.specs.Cause.{NoneFell, Rose};
 ghost use Rattle.px_site.specs.State.{EachMoment, OnFile};
-ghost use Rattle.px_xlog.specs.Errors.{HasLogCause, LeavesSite, OnShortage};
+ghost use Rattle.px_xlog.specs.Errors.{HasLogCause, IsFaultOf, IsOfSite, LeavesUntouched, OnShortage};
 ghost use Rattle.px_xlog.specs.Log.{HasFirst, IsLogOf, full_at, is_end, with_frame};
 ghost use Rattle.px_xlog.specs.Payload.{may_hold};
 ghost use Rattle.px_xlog.specs.Reading.{the_log};
@@ -11,7 +11,7 @@ ghost use Rattle.px_xlog.specs.declared.change.Change.{Change};
 use crate::frame_buffer::FrameBuffer;
 use crate::place::{FIRST_NUMBER, MOST_FRAMES, ONLY_SEGMENT, log_file};
 use crate::{Change, LogError};
-use px_site::Site;
+use px_site::{Fault, Site};
 use std::alloc::{AllocError, Global};
 use std::marker::Model;
 
@@ -57,7 +57,9 @@ impl Xlog {
         }
     }
 
-    /// Appends a frame of the change, and answers its number. LogFull where the log takes no frame of that number.
+    /// Appends a frame of the change, and answers its number. LogFull where the log takes no frame of that number;
+    /// OutOfMemory where the site wants memory or, for a row alone, the call itself does. Both leave the site as it was;
+    /// a fault may not.
     pub fn append<W: Site>(&mut self, site: &mut W, change: &Change) -> Result<u64, LogError>
         requires { may_hold self.old.tables self.old.frames change.now ≡ true }
         ensures number { IfOk result (λ number. number ≡ self.old.frames) }
@@ -65,14 +67,15 @@ impl Xlog {
         ensures as_before { OnErr result (self.new ≡ self.old) }
         ensures logged { W.tells → (changes : List Change) → IsLogOf self.old changes (W.state site.old)
             → OnOk result (IsLogOf self.new (changes ++ change.now ∷ []) (W.state site.new)) }
-        ensures untouched { W.tells → IfErr result (λ error. LeavesSite (W.state site.old) (W.state site.new) (W.counts site.old) (W.counts site.new) error) }
+        ensures untouched { W.tells → IfErr result (LeavesUntouched (W.state site.old) (W.state site.new)) }
         ensures moments { W.tells → (changes : List Change) → IsLogOf self.old changes (W.state site.old)
             → EachMoment (OnFile the_log (W.state site.old).now (HasFirst self.old.durable (changes ++ change.now ∷ []))) (W.state site.old) (W.state site.new) }
         ensures full { full_at self.old ≡ Some self.old.frames → IsErrOf result (LogError.LogFull self.old.frames) }
-        ensures room { 0 < self.old.spare → is_end change.now ≡ true
+        ensures room { is_end change.now ≡ true
             → IfErr result (λ error. OnShortage error (Rose (W.counts site.old).shorts (W.counts site.new).shorts)) }
         ensures none_fell { NoneFell (W.counts site.old) (W.counts site.new) }
         ensures cause { IfErr result (HasLogCause self.old (W.counts site.old) (W.counts site.new)) }
+        ensures own { IfErr result (IsFaultOf Fault.Write) }
     {
         let number = self.frames;
         if number >= MOST_FRAMES {
@@ -87,19 +90,21 @@ impl Xlog {
         Ok(number)
     }
 
-    /// Makes each frame durable. Where each is, nothing is done.
+    /// Makes each frame durable. Where each is, nothing is done. OutOfMemory where the site wants memory, which leaves it
+    /// as it was; a fault may not.
     pub fn flush<W: Site>(&mut self, site: &mut W) -> Result<(), LogError>
         ensures marks { OnOk result (self.new ≡ record self.old { durable = self.old.frames }) }
         ensures as_before { OnErr result (self.new ≡ self.old) }
         ensures logged { W.tells → (changes : List Change) → IsLogOf self.old changes (W.state site.old)
             → OnOk result (IsLogOf self.new changes (W.state site.new)) }
         ensures idle { W.tells → self.old.durable ≡ self.old.frames → W.state site.new ≡ W.state site.old }
-        ensures untouched { W.tells → IfErr result (λ error. LeavesSite (W.state site.old) (W.state site.new) (W.counts site.old) (W.counts site.new) error) }
+        ensures untouched { W.tells → IfErr result (LeavesUntouched (W.state site.old) (W.state site.new)) }
         ensures moments { W.tells → (changes : List Change) → IsLogOf self.old changes (W.state site.old)
             → EachMoment (OnFile the_log (W.state site.old).now (HasFirst self.old.durable changes)) (W.state site.old) (W.state site.new) }
         ensures room { IfErr result (λ error. OnShortage error (Rose (W.counts site.old).shorts (W.counts site.new).shorts)) }
         ensures none_fell { NoneFell (W.counts site.old) (W.counts site.new) }
-        ensures cause { IfErr result (HasLogCause self.old (W.counts site.old) (W.counts site.new)) }
+        ensures cause { IfErr result (IsOfSite (W.counts site.old) (W.counts site.new)) }
+        ensures own { IfErr result (IsFaultOf Fault.Sync) }
     {
         if self.durable == self.frames {
             return Ok(());
@@ -110,7 +115,8 @@ impl Xlog {
         Ok(())
     }
 
-    /// Takes the room for the ends of so many transactions: an append of one wants no memory of its own.
+    /// Counts so many ends of transactions as having their room. Today the frame of an end takes none, and neither does
+    /// this.
     pub fn reserve_ends(&mut self, ends: u32) -> Result<(), AllocError>
         ensures ok { OnOk result (ends ≤ self.new.spare) }
         ensures no_less { self.old.spare ≤ self.new.spare }

@@ -1,15 +1,21 @@
-use Rattle.std.proofs.Common.{◌≡◌, ℕ, List, [], ◌∷◌, ◌++◌, refl, ap, ◌∙◌}
-use Rattle.std.specs.Int.{w64, to_be_bytes}
-use Rattle.px_bytes.specs.Sum.{fnv_of}
+use Rattle.std.proofs.Common.{◌≡◌, ℕ, List, [], ◌++◌, length, drop, ap, ◌∙◌, arith}
+use Rattle.std.proofs.lemmas.List.{append-nil, take_at, drop_at, drop_all}
+use borrow.Rule.Slice.PartMut.{put_mid}
 use Rattle.px_frame.specs.Frame.{frame}
-use Rattle.px_xlog.specs.Payload.{head}
 use Rattle.px_xlog.proofs.frame_buffer.end_frame.Goals as goal
 
+-- two parts that fill a list
+filled : (header rest payload : List ℕ) → length header ≡ 16 → length rest ≡ 18 → put_mid 16 18 (header ++ rest) payload ≡ header ++ payload
+filled header rest payload front back =
+    let behind : drop 18 (drop 16 (header ++ rest)) ≡ [] = ap (drop 18) (drop_at header rest 16 front) ∙ drop_all 18 rest (omega (arith, back)) in
+    ap (λ (b : List ℕ). b ++ (payload ++ drop 18 (drop 16 (header ++ rest)))) (take_at header rest 16 front)
+    ∙ ap (λ (b : List ℕ). header ++ (payload ++ b)) behind
+    ∙ ap (λ (b : List ℕ). header ++ b) (append-nil payload)
+
 pub returns : goal.returns
-unfolding frame head
 returns c =
-    let number = to_be_bytes w64 c.args.number in
-    let payload : List ℕ = head c.args.kind c.args.xn c.args.commit ++ 0 ∷ [] in
-    let sum : c.fnv_on.result ≡ fnv_of (number ++ payload) =
-    c.fnv_on.ensures number (c.fnv.ensures ∙ ap fnv_of c.to_be_bytes-n.ensures) ∙ ap (λ (b : List ℕ). fnv_of (number ++ b)) c.end_bytes-p.ensures in
-    rw (c.to_be_bytes-l.ensures, c.to_be_bytes-s.ensures, c.to_be_bytes-n.ensures, c.end_bytes-p.ensures, sum) refl
+    filled c.copy_from_slice.new.self _ c.copy_from_slice-2.new.self (omega arith) (omega arith)
+    ∙ ap (λ (b : List ℕ). b ++ c.copy_from_slice-2.new.self) c.copy_from_slice.ensures.after
+    ∙ ap (λ (b : List ℕ). c.frame_header-header.result ++ b) c.copy_from_slice-2.ensures.after
+    ∙ c.frame_header-header.ensures
+    ∙ ap (frame c.args.number) c.end_bytes-payload.ensures

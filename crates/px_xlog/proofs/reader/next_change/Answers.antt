@@ -12,7 +12,7 @@ pub returns-in-Some-held-clause-next : goal.returns-in-Some-held-clause-next
 returns-in-Some-held-clause-next g c t sees =
     let shows = window_shows _ c.cover.new.self c.args.place c.from.result.now (c.in_ok-cover.ensures.sees t sees) c.in_ok-cover.ensures.covers c.from.ensures in
     let held = rw c.in-Some-held.is at c.in_ok-held.ensures.some in
-    next_shown _ c.from.result.now c.args.tables c.args.number c.in-Some.payload.now c.in-Some.size c.in-Some-held.change shows c.in-Some.ensures.found c.in-Some.ensures.size held.0 held.1
+    next_shown _ c.from.result.now c.args.number c.in-Some.payload.now c.in-Some.size c.in-Some-held.change shows c.in-Some.ensures.found c.in-Some.ensures.size held.1
 
 pub returns-in-None-clause-damage : goal.returns-in-None-clause-damage
 returns-in-None-clause-damage g c t sees =

@@ -1,20 +1,23 @@
-use Rattle.std.proofs.Common.{◌≡◌, ℕ, ◌+◌, ◌^◌, ◌<◌, ◌≤◌, List, drop, None, refl, sym, subst, ◌∙◌, arith}
+use Rattle.std.proofs.Common.{◌≡◌, ℕ, ◌+◌, ◌^◌, ◌<◌, ◌≤◌, List, [], ◌∷◌, length, drop, None, refl, sym, ap, subst, ◌∙◌, arith, length-append}
 use Rattle.std.proofs.lemmas.Result.{err_from_is_err_and}
 use Rattle.px_site.specs.State.{State}
 use Rattle.px_site.proofs.Causes.{then_none_fell, no_fall}
 use Rattle.px_frame.specs.Frame.{payload_at}
 use Rattle.px_xlog.specs.declared.change.Change.{Change}
+use Rattle.px_xlog.specs.Payload.{may_hold_all}
 use Rattle.px_xlog.specs.Reading.{the_log}
 use Rattle.px_xlog.specs.Scanning.{FindsForeign, IsNext}
 use Rattle.px_xlog.specs.Window.{Sees}
-use Rattle.px_xlog.proofs.LogReading.{IsReading, reading_begins, reading_goes_on, reading_ends, damage_found}
+use Rattle.px_xlog.proofs.LogReading.{IsReading, reading_begins, reading_goes_on, held_goes_on, reading_ends, damage_found}
 use Rattle.px_xlog.proofs.reader.read_log.Goals as goal
 
 pub loop-changes-init : goal.loop-changes-init
 loop-changes-init g c = let content : List ℕ = (g.W.Site.state c.args.site.now).content the_log in record {
   small = omega arith;
   bounded = omega arith;
-  reading = λ t. subst (λ (changes : List Change). IsReading content c.args.tables changes 0 0) (sym c.new-changes.ensures) (reading_begins content c.args.tables);
+  held = ap (may_hold_all c.args.tables 0) c.new-changes.ensures;
+  count = omega (arith, ap length c.new-changes.ensures);
+  reading = λ t. subst (λ (changes : List Change). IsReading content changes 0 0) (sym c.new-changes.ensures) (reading_begins content);
   sees = λ t. c.in_ok-window.ensures content;
   same = λ t. refl;
   none_fell = no_fall;
@@ -30,13 +33,15 @@ loop-changes-preserved g c =
     record {
       small = omega (arith, l.invariant.small);
       bounded = omega arith;
+      held = ap (may_hold_all c.args.tables 0) c.in_ok-push.ensures.ok ∙ held_goes_on c.args.tables l.changes l.frames c.in-Some.change l.invariant.held l.invariant.count (rw c.in-Some.is at c.in_ok-change.ensures.held);
+      count = omega (arith, ap length c.in_ok-push.ensures.ok, length-append l.changes (c.in-Some.change ∷ []), l.invariant.count);
       reading = λ t.
           let same = l.invariant.same t in
           let sees = subst (λ (s : State). Sees (s.content the_log) l.window) (sym same) (l.invariant.sees t) in
           let next = rw c.in-Some.is at (c.in_ok-change.ensures.next t sees) in
-          let here = subst (λ (s : State). IsNext (drop l.stop (s.content the_log)) c.args.tables l.frames c.in-Some.change c.in-Some.size) same next in
-          subst (λ (changes : List Change). IsReading content c.args.tables changes (l.stop + c.in-Some.size) (l.frames + 1)) (sym c.in_ok-push.ensures.ok)
-          (reading_goes_on content c.args.tables l.changes l.stop l.frames c.in-Some.change c.in-Some.size (l.invariant.reading t) here);
+          let here = subst (λ (s : State). IsNext (drop l.stop (s.content the_log)) l.frames c.in-Some.change c.in-Some.size) same next in
+          subst (λ (changes : List Change). IsReading content changes (l.stop + c.in-Some.size) (l.frames + 1)) (sym c.in_ok-push.ensures.ok)
+          (reading_goes_on content l.changes l.stop l.frames c.in-Some.change c.in-Some.size (l.invariant.reading t) here);
       sees = λ t.
           let same = l.invariant.same t in
           let sees = subst (λ (s : State). Sees (s.content the_log) l.window) (sym same) (l.invariant.sees t) in
@@ -54,7 +59,7 @@ returns-in_err-change-clause-damage g c t =
     let content : List ℕ = (g.W.Site.state c.args.site.now).content the_log in
     let error = c.in_err-change.field-0.0 in
     let finds = subst (λ (s : State). FindsForeign (drop l.stop (s.content the_log)) c.args.tables l.frames l.stop error) same (c.in_err-change.ensures.damage t sees) in
-    rw (p.1, p.2) (damage_found content c.args.tables l.changes l.stop l.frames error (l.invariant.reading t) finds)
+    rw (p.1, p.2) (damage_found content c.args.tables l.changes l.stop l.frames error (l.invariant.reading t) l.invariant.held finds)
 
 pub returns-clause-scan : goal.returns-clause-scan
 returns-clause-scan g c t =
@@ -63,4 +68,4 @@ returns-clause-scan g c t =
     let sees = subst (λ (s : State). Sees (s.content the_log) l.window) (sym same) (l.invariant.sees t) in
     let stops = rw c.in_default.is at (c.in_ok-change.ensures.stops t sees) in
     let none = subst (λ (s : State). payload_at (drop l.stop (s.content the_log)) l.frames ≡ None) same stops in
-    reading_ends ((g.W.Site.state c.args.site.now).content the_log) c.args.tables l.changes l.stop l.frames (l.invariant.reading t) none
+    reading_ends ((g.W.Site.state c.args.site.now).content the_log) l.changes l.stop l.frames (l.invariant.reading t) none

@@ -1,5 +1,6 @@
-use Rattle.std.proofs.Common.{◌≡◌, ◌*◌, ◌-◌, ◌^◌, ◌≤◌}
+use Rattle.std.proofs.Common.{◌≡◌, ◌*◌, ◌-◌, ◌^◌, ◌≤◌, true, length}
 use Rattle.px_site.specs.Cause.{NoneFell}
+use Rattle.px_xlog.specs.Payload.{may_hold_all}
 use Rattle.px_xlog.specs.Reading.{the_log}
 use Rattle.px_xlog.specs.Window.{Sees}
 use Rattle.px_xlog.proofs.LogReading.{IsReading}
@@ -11,7 +12,9 @@ invariant-loop-changes g l =
     record {
       small : l.stop ≤ 8208 * l.frames;
       bounded : l.frames ≤ 2 ^ 48;
-      reading : g.W.Site.tells → IsReading ((state l.fn.site).content the_log) l.tables l.changes l.stop l.frames;
+      held : may_hold_all l.tables 0 l.changes ≡ true;
+      count : l.frames ≡ length l.changes;
+      reading : g.W.Site.tells → IsReading ((state l.fn.site).content the_log) l.changes l.stop l.frames;
       sees : g.W.Site.tells → Sees ((state l.fn.site).content the_log) l.window;
       same : g.W.Site.tells → state l.site ≡ state l.fn.site;
       none_fell : NoneFell (g.W.Site.counts l.fn.site) (g.W.Site.counts l.site);
