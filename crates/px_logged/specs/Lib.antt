@@ -1,0 +1,5 @@
+pub mod Fitting
+pub mod Fronts
+pub mod Growing
+pub mod Logged
+pub mod Recounting

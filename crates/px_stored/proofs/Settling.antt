@@ -1,0 +1,101 @@
+-- A site that holds all of a machine is a settled store.
+use Rattle.std.proofs.Common.{◌≡◌, ℕ, ◌+◌, ◌^◌, ◌≤◌, List, [], ◌∷◌, ◌++◌, length, map, take, drop, refl, sym, ap, subst, ◌∙◌, append_assoc, arith, length-append}
+use Rattle.std.specs.List.{AllByRecursion}
+use Rattle.std.proofs.lemmas.List.{append-nil, drop_at, take_at}
+use Rattle.px_site.specs.declared.name.FileName.TheVariants.{Restart as RestartFile}
+use Rattle.px_site.specs.Disk.{Change as DiskChange, Wrote, FileState, IsImage, overlay, overlaid, at_rest}
+use Rattle.px_site.specs.State.{State}
+use Rattle.px_frame.specs.Frame.{frame, FrameAt}
+use Rattle.px_frame.specs.declared.frame.TheConstants.{HEADER_SIZE}
+use Rattle.px_scan.specs.Scan.{frames, CanFrames}
+use Rattle.px_restart.specs.declared.restart.Restart.{Restart}
+use Rattle.px_restart.specs.declared.restart.TheConstants.{RESTART_SIZE}
+use Rattle.px_restart.specs.declared.text.TheConstants.{VERSION}
+use Rattle.px_restart.specs.Restart.{restart_text}
+use Rattle.px_model.specs.declared.row.Row.{Row}
+use Rattle.px_model.specs.Machine.{Machine, commits}
+use Rattle.px_xlog.specs.declared.change.Change.{Change}
+use Rattle.px_xlog.specs.Payload.{change_text, may_hold_all}
+use Rattle.px_xlog.specs.Reading.{Files, the_log, log_text, first_restart, second_restart, commits_in, rows_in, StandsFor}
+use Rattle.px_xlog.specs.Images.{HasAt, IsBehind, IsPlainRestart, IsPlainLog, IsPlainImage, Settled, IsSettledStore}
+use Rattle.px_xlog.specs.Log.{Log, HasFirst, IsLogOf, appended, grown_file}
+use Rattle.px_xlog.proofs.Appending.{appended_behind, log_parts, first_survive}
+use Rattle.px_xlog.proofs.FramesOfChanges.{can_frames}
+use Rattle.px_xlog.proofs.Growing.{overlay_end}
+use Rattle.px_logged.specs.Recounting.{Recounts, rows_now}
+use Rattle.px_stored.specs.Stored.{RestartsRest, Stored, ReadsImages}
+use Rattle.px_stored.proofs.Standing.{IsGrowing, image_stands}
+
+-- ---- what is read is plain
+
+plain_restart : (file : FileState) (content : List ℕ) → file ≡ at_rest content → IsPlainRestart file content
+plain_restart file content rests = subst (λ (f : FileState). IsPlainRestart f content) (sym rests) (λ restart at. (0, has restart at.front))
+  where
+    has : (restart : Restart) → content ≡ restart_text VERSION restart ++ drop RESTART_SIZE content → HasAt content 0 (restart_text VERSION restart)
+    has restart front =
+        let text = restart_text VERSION restart in
+        ap (λ (b : List ℕ). take (length text) b) front ∙ take_at text (drop RESTART_SIZE content) (length text) refl
+
+-- with all its writes over it, a log's file is the frames of its changes
+overlaid_appended : (synced : List ℕ) (earlier : List DiskChange) (content : List ℕ) (place number : ℕ) (payloads : List (List ℕ)) → overlaid synced earlier ≡ content → place ≡ length content
+    → overlaid synced (appended earlier place number payloads) ≡ content ++ frames number payloads
+unfolding frames
+overlaid_appended synced earlier content place number [] is at_end = is ∙ sym (append-nil content)
+overlaid_appended synced earlier content place number (payload ∷ payloads) is at_end =
+    let one = frame number payload in
+    overlaid_appended synced (Wrote place one ∷ earlier) (content ++ one) (place + length one) (number + 1) payloads
+    (ap (λ (b : List ℕ). overlay b place one) is ∙ overlay_end content one place at_end) (omega (arith, at_end, length-append content one))
+    ∙ append_assoc content one (frames (number + 1) payloads)
+
+frame_has : (content front text rest : List ℕ) → content ≡ front ++ (text ++ rest) → HasAt content (length front) text
+frame_has content front text rest e =
+    ap (λ (b : List ℕ). take (length text) b) (ap (λ (c : List ℕ). drop (length front) c) e ∙ drop_at front (text ++ rest) (length front) refl)
+    ∙ take_at text rest (length text) refl
+
+plain_log : (durable : ℕ) (changes : List Change) → durable ≤ length changes → IsPlainLog (grown_file durable changes) (log_text changes)
+plain_log durable changes within before payload rest can e at =
+    let file = grown_file durable changes in
+    let number = length before in
+    let text = frame number payload in
+    let all : overlaid file.synced file.pending ≡ log_text changes =
+    overlaid_appended file.synced [] file.synced (length file.synced) durable (map change_text (drop durable changes)) refl refl ∙ log_parts durable changes within in
+    let parts : log_text changes ≡ frames 0 before ++ (text ++ drop (HEADER_SIZE + length payload) rest) = e ∙ ap (λ (b : List ℕ). frames 0 before ++ b) at.front in
+    (0, subst (λ (c : List ℕ). HasAt c (length (frames 0 before)) text) (sym all) (frame_has (log_text changes) (frames 0 before) text (drop (HEADER_SIZE + length payload) rest) parts))
+
+-- ---- the site
+
+pub grows : (restart : Restart) (changes : List Change) (log : Log) (m : Machine) (s : State) → Stored restart changes log m s → IsGrowing restart changes log.durable m
+grows restart changes log m s stored = record {
+  held = stored.says.scan.held;
+  counted = stored.says.counted;
+  reached = stored.reached;
+  durable_commits = stored.durable ∙ stored.did.commits_are;
+  commits_are = stored.did.commits_are;
+  rows_are = stored.did.rows_are;
+}
+
+pub stored_settled : (restart : Restart) (changes : List Change) (log : Log) (m : Machine) (s : State) → log.frames ≤ 2 ^ 48 → ReadsImages s → Stored restart changes log m s
+    → IsSettledStore restart changes s
+stored_settled restart changes log m s below reads stored = record {
+  says = stored.says;
+  settled = record {
+    plain = record {
+      each = reads;
+      first = plain_restart (s.now.files (RestartFile 0)) (s.content (RestartFile 0)) stored.rests.first;
+      second = plain_restart (s.now.files (RestartFile 1)) (s.content (RestartFile 1)) stored.rests.second;
+      log = subst (λ (f : FileState). IsPlainLog f (s.content the_log)) (sym stored.log.file)
+          (subst (λ (c : List ℕ). IsPlainLog (grown_file log.durable changes) c) (sym stored.log.content) (plain_log log.durable changes stored.log.durable));
+    };
+    images = record { each = λ image plain. stands image plain };
+    grew = subst (λ (f : FileState). AllByRecursion (IsBehind f.synced) f.pending) (sym stored.log.file)
+        (appended_behind (log_text (take log.durable changes)) [] (length (log_text (take log.durable changes))) log.durable (map change_text (drop log.durable changes)) tt (omega arith));
+  };
+}
+  where
+    stands : (image : Files) → IsPlainImage s.now image → StandsFor image (commits_in changes) (rows_in changes)
+    stands image plain =
+        let can = can_frames log.tables 0 changes stored.log.held (omega (arith, stored.log.count, below)) in
+        let first = subst (λ (f : FileState). HasFirst log.durable changes f) (sym stored.log.file) (first_survive log.durable changes can stored.log.durable) in
+        subst (λ (c : ℕ). StandsFor image c (rows_in changes)) stored.did.commits_are
+        (subst (λ (rows : List Row). StandsFor image (commits m) rows) stored.did.rows_are
+        (image_stands restart changes log.durable m s.now s.content image stored.says.picked stored.rests (grows restart changes log m s stored) first plain))

@@ -1,0 +1,47 @@
+-- A site that holds all of a machine, and what a crash leaves of it.
+use Rattle.std.specs.Prelude.{◌≡◌, ◌⊎◌, ℕ, ◌+◌, ◌-◌, ◌^◌, ◌≤◌, List, [], take}
+use Rattle.px_site.specs.declared.name.FileName.{FileName}
+use Rattle.px_site.specs.declared.name.FileName.TheVariants.{Restart as RestartFile}
+use Rattle.px_site.specs.Disk.{IsImage, at_rest}
+use Rattle.px_site.specs.State.{State, Moment}
+use Rattle.px_restart.specs.declared.restart.Restart.{Restart}
+use Rattle.px_model.specs.Machine.{Machine, commits}
+use Rattle.px_xlog.specs.declared.change.Change.{Change}
+use Rattle.px_xlog.specs.Reading.{Files, first_restart, second_restart, Says, StandsFor, commits_in}
+use Rattle.px_xlog.specs.Images.{IsPlainImage, IsSettledStore}
+use Rattle.px_xlog.specs.Log.{Log, IsLogOf}
+use Rattle.px_logged.specs.Recounting.{Recounts, rows_now}
+
+-- both restart files are on the disk as they read
+pub record RestartsRest (m : Moment) (files : Files) : Type 0 where
+  pub first : m.files (RestartFile 0) ≡ at_rest (first_restart files)
+  pub second : m.files (RestartFile 1) ≡ at_rest (second_restart files)
+
+-- the site says this restart and these changes, each Commit of which is durable, and they are what the machine did
+pub record Stored (restart : Restart) (changes : List Change) (kept : Log) (m : Machine) (s : State) : Type 0 where
+  pub says : Says s.content restart changes
+  pub log : IsLogOf kept changes s
+  pub rests : RestartsRest s.now s.content
+  pub tables : kept.tables ≡ restart.tables
+  pub reached : restart.durable ≤ kept.durable
+  pub durable : commits_in (take kept.durable changes) ≡ commits m
+  pub did : Recounts changes m
+
+-- the files stand for what the machine has committed
+abbrev pub HasCommitted : Machine → Files → Type 0
+HasCommitted m image = StandsFor image (commits m) (rows_now m)
+
+-- whatever a crash at this moment leaves stands for what one of two machines has committed, and nothing is told meanwhile
+pub record StandsForEither (m next : Machine) (before now : Moment) : Type 0 where
+  pub each : (image : Files) → IsPlainImage now image → HasCommitted m image ⊎ HasCommitted next image
+  pub told : now.told ≡ before.told
+  pub telling : now.telling ≡ []
+
+-- what a read returns is what a crash may leave, as each site promises
+abbrev pub ReadsImages : State → Type 0
+ReadsImages s = (name : FileName) → IsImage (s.now.files name) (s.content name)
+
+-- a site that holds all of a machine is a settled store
+abbrev pub StoredIsSettled : Type 0
+StoredIsSettled = (restart : Restart) (changes : List Change) (log : Log) (m : Machine) (s : State) → log.frames ≤ 2 ^ 48 → ReadsImages s
+    → Stored restart changes log m s → IsSettledStore restart changes s
