@@ -1,3 +1,3 @@
-pub mod Changes
-pub mod Recounted
-pub mod Slots
+pub mod Rows
+pub mod Serving
+pub mod Writing

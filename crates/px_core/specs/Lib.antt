@@ -1,2 +1,4 @@
-pub mod Logged
-pub mod Recounting
+pub mod Appending
+pub mod Core
+pub mod Rows
+pub mod Serving

@@ -1,9 +1,14 @@
-//! The state behind all session calls, and its log.
+//! The one state behind all session calls.
 //!
-//! `laws` say that what the calls add to the log is what they did to the machine, so that the log alone has the commits
-//! and the rows. `specs/Logged` says what a call adds, `specs/Recounting` when a log tells what a machine did.
+//! - `state`: `Core` over any site, and what its calls leave of the site at every moment.
+//! - `error`: why a call gives up.
+//!
+//! The definitions: `specs/Core` what a core keeps and what an error leaves of it; `specs/Serving` what a call answers, and
+//! what stands within it; `specs/Appending` one frame more; `specs/Rows` rows one after the other.
 #![tactic(auto)]
 
-mod laws;
+mod error;
+mod state;
 
-pub use laws::{calls_add_what_they_did, what_opens_is_its_log};
+pub use error::CoreError;
+pub use state::Core;

@@ -1,5 +1,0 @@
-use Rattle.px_core.proofs.Recounted.{fresh_recounts}
-use Rattle.px_core.proofs.laws.what_opens_is_its_log.Goals as goal
-
-pub returns : goal.returns
-returns c = fresh_recounts

@@ -1,0 +1,118 @@
+ghost use Rattle.std.specs.Prelude.{◌≡◌, ◌<◌, ◌^◌, Some, true, IfOk, IfErr, IsErrOf};
+ghost use Rattle.px_site.specs.Cause.{NoneFell};
+ghost use Rattle.px_site.specs.declared.error.SiteError.{SiteError};
+ghost use Rattle.px_calls.specs.declared.call.Call.{Call};
+ghost use Rattle.px_logged.specs.Fitting.{tag_of};
+ghost use Rattle.px_core.specs.Core.{adds_nothing, is_write};
+ghost use Rattle.px_core.specs.Serving.{Answers, Refuses, StandsWithin};
+
+use super::Core;
+use crate::CoreError;
+use px_calls::{Call, Reply};
+use px_model::Session;
+use px_site::Site;
+use px_xlog::Change;
+
+impl<W: Site> Core<W> {
+    /// One call of a session, whichever it is: its reply, or why the core gives up.
+    ///
+    /// - `OutOfMemory`: the call or the site wanted memory, a commit and a rollback only where the site did.
+    /// - `Fault`: an append or a sync of the transaction log failed; the core is broken from then on.
+    /// - `LogFull`: the call is no refusal and had a frame to append, for which the log has no number left.
+    /// - `Broken`: exactly where the core keeps an error of an earlier call.
+    pub fn step(&mut self, session: Session, call: &Call) -> Result<Reply, CoreError>
+        ensures answered { IfOk result (Answers W.tells W.state session call.now self.old self.new) }
+        ensures moments { W.tells → StandsWithin W.state session call.now self.old self.new }
+        ensures refused { IfErr result (Refuses W.tells W.state W.counts session call.now self.old self.new) }
+        ensures broken { (error : SiteError) → self.old.error ≡ Some error → IsErrOf result (CoreError.Broken error) }
+        ensures none_fell { NoneFell (W.counts self.old.site) (W.counts self.new.site) }
+    {
+        if let Some(error) = self.error {
+            return Err(CoreError::Broken(error));
+        }
+        match call {
+            Call::Begin
+            | Call::Get { .. }
+            | Call::Hold { .. }
+            | Call::Fetch { .. }
+            | Call::Find { .. }
+            | Call::Scan { .. } => self.answer(session, call),
+            Call::Insert { .. } | Call::Update { .. } | Call::Delete { .. } => {
+                self.write(session, call)
+            }
+            Call::Commit => self.commit_writes(session),
+            Call::Rollback => self.roll_back_writes(session),
+        }
+    }
+
+    // A call that adds nothing to the log.
+    fn answer(&mut self, session: Session, call: &Call) -> Result<Reply, CoreError>
+        requires { adds_nothing call.now ≡ true }
+        ensures answered { IfOk result (Answers W.tells W.state session call.now self.old self.new) }
+        ensures moments { W.tells → StandsWithin W.state session call.now self.old self.new }
+        ensures refused { IfErr result (Refuses W.tells W.state W.counts session call.now self.old self.new) }
+        ensures none_fell { NoneFell (W.counts self.old.site) (W.counts self.new.site) }
+    {
+        Ok(self.plain.step(session, call)?)
+    }
+
+    // A write that isn't refused appends its frame. Where that fails it is taken back.
+    fn write(&mut self, session: Session, call: &Call) -> Result<Reply, CoreError>
+        requires { is_write call.now ≡ true }
+        ensures answered { IfOk result (Answers W.tells W.state session call.now self.old self.new) }
+        ensures moments { W.tells → StandsWithin W.state session call.now self.old self.new }
+        ensures refused { IfErr result (Refuses W.tells W.state W.counts session call.now self.old self.new) }
+        ensures none_fell { NoneFell (W.counts self.old.site) (W.counts self.new.site) }
+    {
+        let reply = self.plain.step(session, call)?;
+        if reply.is_refusal() {
+            return Ok(reply);
+        }
+        let _tag = tag_of(call);
+        if let Err(error) = self.append_last_write(session) {
+            self.plain.unwrite(session);
+            return Err(error);
+        }
+        Ok(reply)
+    }
+
+    // The writes stand once the Commit frame is durable.
+    fn commit_writes(&mut self, session: Session) -> Result<Reply, CoreError>
+        ensures answered { IfOk result (Answers W.tells W.state session Call.Commit self.old self.new) }
+        ensures moments { W.tells → StandsWithin W.state session Call.Commit self.old self.new }
+        ensures refused { IfErr result (Refuses W.tells W.state W.counts session Call.Commit self.old self.new) }
+        ensures none_fell { NoneFell (W.counts self.old.site) (W.counts self.new.site) }
+    {
+        let Some(xn) = self.plain.stored_writer(session) else {
+            return Ok(self.plain.commit(session)?);
+        };
+        let commit = self.plain.commits() + 1;
+        self.append(&Change::Commit { xn, commit })?;
+        self.flush()?;
+        Ok(self.plain.commit(session)?)
+    }
+
+    fn roll_back_writes(&mut self, session: Session) -> Result<Reply, CoreError>
+        ensures answered { IfOk result (Answers W.tells W.state session Call.Rollback self.old self.new) }
+        ensures moments { W.tells → StandsWithin W.state session Call.Rollback self.old self.new }
+        ensures refused { IfErr result (Refuses W.tells W.state W.counts session Call.Rollback self.old self.new) }
+        ensures none_fell { NoneFell (W.counts self.old.site) (W.counts self.new.site) }
+    {
+        let Some(xn) = self.plain.stored_writer(session) else {
+            return Ok(self.plain.rollback(session)?);
+        };
+        self.append(&Change::Rollback { xn })?;
+        Ok(self.plain.rollback(session)?)
+    }
+}
+
+// The tag that a call writes, 0 where it writes none. A frame takes each.
+fn tag_of(call: &Call) -> u32
+    ensures is { result ≡ tag_of call.now }
+    ensures fits { tag_of call.now < 2 ^ 32 }
+{
+    match call {
+        Call::Insert { tag, .. } | Call::Update { tag, .. } => *tag,
+        _ => 0,
+    }
+}
