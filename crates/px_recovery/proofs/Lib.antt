@@ -1,5 +1,12 @@
+pub mod Committing
+pub mod Contents
 pub mod Deciding
+pub mod Found
 pub mod Fronts
 pub mod NewMoments
 pub mod NewStore
+pub mod OneStore
 pub mod Others
+pub mod Quiet
+pub mod Sound
+pub mod Syncing

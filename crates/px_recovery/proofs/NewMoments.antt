@@ -1,8 +1,8 @@
 -- While a store is made, a crash leaves no restart, or a store without commits and rows.
-use Rattle.std.proofs.Common.{◌≡◌, ◌⊎◌, ℕ, zero, suc, ◌≤◌, ◌<◌, Bool, true, false, cond, List, [], ◌∷◌, length, drop, get_or, refl, subst, ◌∙◌, inl, inr, arith, Result, Ok}
+use Rattle.std.proofs.Common.{◌≡◌, ◌⊎◌, ℕ, zero, suc, ◌≤◌, ◌<◌, Bool, true, false, cond, List, [], ◌∷◌, length, drop, get_or, refl, sym, ap, subst, ◌∙◌, inl, inr, arith, Result, Ok}
 use Rattle.px_site.specs.declared.name.FileName.{FileName}
 use Rattle.px_site.specs.declared.error.SiteError.{SiteError}
-use Rattle.px_site.specs.Disk.{Change, Wrote, Cut, Removed, FileState, IsImage, overlaid, pending_more, touches, touched, least, most}
+use Rattle.px_site.specs.Disk.{Change, Wrote, Cut, Removed, FileState, IsImage, overlaid, at_rest, pending_more, touches, touched, least, most}
 use Rattle.px_site.specs.Names.{same_file}
 use Rattle.px_site.specs.State.{State, Moment, EachMoment, Changes, Syncs, with_file}
 use Rattle.px_site.proofs.Files.{stands, stands_changed, change_on_file, sync_on_file, same_file_is}
@@ -13,13 +13,14 @@ use Rattle.px_restart.specs.declared.restart.TheConstants.{MOST_TABLES, SHORTEST
 use Rattle.px_restart.specs.declared.text.TheConstants.{VERSION}
 use Rattle.px_restart.specs.Restart.{CanRestart, RestartAt, IsPicked, restart_text}
 use Rattle.px_restart.proofs.Restarts.{one_restart}
-use Rattle.px_xlog.specs.Images.{HasAt, WasWritten, IsPlainRestart, IsPlainLog, IsPlainImage, CanMake, Settled}
+use Rattle.px_xlog.specs.Images.{HasAt, WasWritten, IsPlainRestart, IsPlainLog, IsPlainImage, ImagesAreNew, CanMake, Settled}
 use Rattle.px_xlog.specs.Reading.{Files, the_log, StandsFor, HasNoRestart}
 use Rattle.px_xlog.proofs.AtRest.{image_of_rest}
 use Rattle.px_recovery.specs.Making.{first_file, second_file, first_saved, with_restart, IsFree, IsWritten, WritesFirstFile, StaysNew}
 use Rattle.px_recovery.proofs.Deciding.{decide_restart}
 use Rattle.px_recovery.proofs.NewStore.{new_store, written_checks, other_image, no_second, no_log, made_settled}
 use Rattle.px_recovery.proofs.Fronts.{has_text, is_text}
+use Rattle.px_recovery.proofs.Quiet.{last_moment}
 
 -- ---- call by call
 
@@ -191,3 +192,16 @@ module _ (tables short : ℕ) (before middle now : State) (restart : Restart) (i
   make_settled written reads =
       let here = subst (λ (r : Restart). IsWritten r middle now) is_first written in
       made_settled tables short before now can free bounds (subst (λ (s : State). IsWritten (first_saved tables short) s now) still here) reads
+
+  -- after an error, where others' contents are as they were
+  pub make_again : EachMoment (WritesFirstFile restart middle) middle now → ((name : FileName) → same_file first_file name ≡ false → now.content name ≡ middle.content name) → CanMake now
+  make_again moments others =
+      let here = subst (λ (s : State). EachMoment (WritesFirstFile restart s) s now) still moments in
+      let kept = subst (λ (s : State). (name : FileName) → same_file first_file name ≡ false → now.content name ≡ s.content name) still others in
+      record {
+        others = λ name apart.
+            last_moment (λ (m : Moment). m.files name ≡ before.now.files name) refl (weaker_moments (λ m on. on.others name apart) here)
+            ∙ can.others name apart
+            ∙ ap at_rest (sym (kept name apart));
+        images = last_moment ImagesAreNew can.images (weaker_moments (λ m new. new.images) (make_moments moments));
+      }

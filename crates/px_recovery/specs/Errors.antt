@@ -1,12 +1,27 @@
--- Why a store isn't made, and what a refusal leaves.
-use Rattle.std.specs.Prelude.{◌≡◌, ⊤}
+-- Why a store isn't made or opened, and what a refusal leaves.
+use Rattle.std.specs.Prelude.{◌≡◌, ◌≢◌, ⊤}
 use Rattle.px_site.specs.Cause.{Counts, Rose}
 use Rattle.px_site.specs.State.{State}
+use Rattle.px_site.specs.declared.error.Fault.TheVariants.{Tell}
 use Rattle.px_site.specs.declared.error.SiteError.{SiteError}
 use Rattle.px_site.specs.declared.error.SiteError.TheVariants.{OutOfMemory as Short, Fault as Failed}
+use Rattle.px_restart.specs.declared.restart.Restart.{Restart}
+use Rattle.px_restart.specs.Restart.{IsPicked}
+use Rattle.px_xlog.specs.declared.error.LogError.{LogError}
+use Rattle.px_xlog.specs.declared.error.LogError.TheVariants.{OutOfMemory as LogShort, Fault as LogFailed, Damaged as LogDamaged, LogFull as LogAtEnd}
+use Rattle.px_xlog.specs.Reading.{Files, the_log, first_restart, second_restart, HasNoRestart, IsDamage}
 use Rattle.px_recovery.specs.Making.{IsFree}
 use Rattle.px_recovery.specs.declared.error.MakeError.{MakeError}
 use Rattle.px_recovery.specs.declared.error.MakeError.TheVariants.{OutOfMemory, Fault as FaultOf, NotEmpty}
+use Rattle.px_recovery.specs.declared.error.OpenError.{OpenError}
+use Rattle.px_recovery.specs.declared.error.OpenError.TheVariants.{OutOfMemory as OpenShort, Fault as OpenFault, NoStore, Damaged, LogFull}
+
+-- a fault is one of a file's
+abbrev pub IsOfFile : SiteError → Type 0
+IsOfFile Short = ⊤
+IsOfFile (Failed fault) = fault ≢ Tell
+
+-- ---- of make
 
 abbrev pub of_site : SiteError → MakeError
 of_site Short = OutOfMemory
@@ -18,8 +33,59 @@ HasMakeCause old new OutOfMemory = Rose old.shorts new.shorts
 HasMakeCause old new (FaultOf fault) = Rose (old.faults fault) (new.faults fault)
 HasMakeCause old new NotEmpty = ⊤
 
+-- the same of an error of make
+abbrev pub MakesFileFault : MakeError → Type 0
+MakesFileFault OutOfMemory = ⊤
+MakesFileFault (FaultOf fault) = fault ≢ Tell
+MakesFileFault NotEmpty = ⊤
+
 -- NotEmpty comes only where the site isn't free, and leaves it as it was
 abbrev pub RefusesUsed : State → State → MakeError → Type 0
 RefusesUsed old new OutOfMemory = ⊤
 RefusesUsed old new (FaultOf fault) = ⊤
 RefusesUsed old new NotEmpty = (IsFree old.content → ⊥) × (new ≡ old)
+
+-- ---- of open_store
+
+abbrev pub open_of_site : SiteError → OpenError
+open_of_site Short = OpenShort
+open_of_site (Failed fault) = OpenFault fault
+
+abbrev pub open_of_log : LogError → OpenError
+open_of_log LogShort = OpenShort
+open_of_log (LogFailed fault) = OpenFault fault
+open_of_log (LogDamaged file place) = Damaged file place
+open_of_log (LogAtEnd number) = LogFull number
+
+-- what a refusal says of the files
+abbrev pub HasRefusal : Files → OpenError → Type 0
+HasRefusal files OpenShort = ⊤
+HasRefusal files (OpenFault fault) = ⊤
+HasRefusal files NoStore = HasNoRestart files
+HasRefusal files (Damaged file place) =
+    (restart : Restart) × (file ≡ the_log) × IsPicked (first_restart files) (second_restart files) restart × IsDamage restart (files the_log) place
+HasRefusal files (LogFull number) = ⊥
+
+-- no refusal of what stands there: want of memory, or a fault of the site
+abbrev pub IsPassing : OpenError → Type 0
+IsPassing OpenShort = ⊤
+IsPassing (OpenFault fault) = ⊤
+IsPassing NoStore = ⊥
+IsPassing (Damaged file place) = ⊥
+IsPassing (LogFull number) = ⊥
+
+-- a fault is one of a file's, and was counted
+abbrev pub CountsFault : Counts → Counts → OpenError → Type 0
+CountsFault old new OpenShort = ⊤
+CountsFault old new (OpenFault fault) = (fault ≢ Tell) × Rose (old.faults fault) (new.faults fault)
+CountsFault old new NoStore = ⊤
+CountsFault old new (Damaged file place) = ⊤
+CountsFault old new (LogFull number) = ⊥
+
+-- a site without a store is left as it was, and a damaged one with all contents as they were
+abbrev pub KeepsContent : State → State → OpenError → Type 0
+KeepsContent old new OpenShort = ⊤
+KeepsContent old new (OpenFault fault) = ⊤
+KeepsContent old new NoStore = new ≡ old
+KeepsContent old new (Damaged file place) = new.content ≡ old.content
+KeepsContent old new (LogFull number) = ⊥

@@ -1,2 +1,4 @@
+pub mod Beginnings
 pub mod Errors
 pub mod Making
+pub mod Opening

@@ -1,16 +1,20 @@
 //! A store's beginning: it is made in an empty site, and its restart is found again.
 //!
 //! - `making`: `make`, which makes a store without rows where there is none.
+//! - `opening`: `open_store`, which opens the store that a site stands for.
 //! - `restarts`: which restart counts, as the two restart files read.
-//! - `error`: `MakeError`, why a store isn't made.
+//! - `error`: `MakeError` and `OpenError`, why a store isn't made or opened.
 //!
 //! The definitions: `specs/Making` which sites are free, and what `make` leaves of them, at each of its moments too;
-//! `specs/Errors` causes.
+//! `specs/Opening` what an opening finds; `specs/Errors` causes.
 #![tactic(auto)]
 
+mod changes;
 mod error;
 mod making;
+mod opening;
 mod restarts;
 
-pub use error::MakeError;
+pub use error::{MakeError, OpenError};
 pub use making::make;
+pub use opening::{NotOpened, OpenReport, Opened, open_store};

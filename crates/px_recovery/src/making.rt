@@ -1,11 +1,13 @@
 // A store without rows is made.
-ghost use Rattle.std.specs.Prelude.{◌≡◌, ◌≤◌, [], true, false, IfOk, IfErr, OnOk};
+ghost use Rattle.std.specs.Prelude.{◌≡◌, ◌≤◌, [], true, false, IfOk, IfErr, OnOk, OnErr};
 ghost use Rattle.px_site.specs.Cause.{HasCause, NoneFell};
+ghost use Rattle.px_site.specs.Names.{same_file};
 ghost use Rattle.px_site.specs.State.{EachMoment};
+ghost use Rattle.px_site.specs.declared.name.FileName.{FileName};
 ghost use Rattle.px_restart.specs.Restart.{CanRestart};
 ghost use Rattle.px_xlog.specs.Images.{CanMake, Settled};
-ghost use Rattle.px_recovery.specs.Errors.{HasMakeCause, RefusesUsed};
-ghost use Rattle.px_recovery.specs.Making.{HasNoOthers, IsFree, IsMade, IsWritten, StaysNew, WritesFirstFile, first_saved, precedes};
+ghost use Rattle.px_recovery.specs.Errors.{HasMakeCause, IsOfFile, MakesFileFault, RefusesUsed};
+ghost use Rattle.px_recovery.specs.Making.{HasNoOthers, IsFree, IsMade, IsWritten, StaysNew, WritesFirstFile, first_file, first_saved, precedes};
 
 use crate::MakeError;
 use crate::restarts::{FIRST_RESTART, SECOND_RESTART, read_restart};
@@ -14,7 +16,8 @@ use px_site::{FileName, Site, SiteError};
 
 /// Makes a store with so many tables and this short length, in bytes, and without rows, where no file but the two
 /// restart files has a byte and neither of these checks (docs/FORMATS.md, 'Restart file'). Elsewhere it answers NotEmpty,
-/// and does nothing. Its other errors are those of the site; after a fault a store may have been made or not.
+/// and does nothing. Its other errors are those of the site; after a fault a store may have been made or not, and where not,
+/// it may be made again.
 pub fn make<W: Site>(site: &mut W, tables: u32, short: u32) -> Result<(), MakeError>
     requires tables_from { 1 ≤ tables }
     requires tables_to { tables ≤ MOST_TABLES }
@@ -27,7 +30,9 @@ pub fn make<W: Site>(site: &mut W, tables: u32, short: u32) -> Result<(), MakeEr
     ensures first_alone { W.tells → EachMoment (WritesFirstFile (first_saved tables short) (W.state site.old)) (W.state site.old) (W.state site.new) }
     ensures refused { W.tells → IfErr result (RefusesUsed (W.state site.old) (W.state site.new)) }
     ensures none_fell { NoneFell (W.counts site.old) (W.counts site.new) }
+    ensures again { W.tells → CanMake (W.state site.old) → OnErr result (CanMake (W.state site.new)) }
     ensures cause { IfErr result (HasMakeCause (W.counts site.old) (W.counts site.new)) }
+    ensures own { IfErr result MakesFileFault }
 {
     if !is_free(site)? {
         return Err(MakeError::NotEmpty);
@@ -42,6 +47,7 @@ fn is_free<W: Site>(site: &mut W) -> Result<bool, SiteError>
     ensures same { W.tells → W.state site.new ≡ W.state site.old }
     ensures none_fell { NoneFell (W.counts site.old) (W.counts site.new) }
     ensures cause { IfErr result (HasCause (W.counts site.old) (W.counts site.new)) }
+    ensures own { IfErr result IsOfFile }
 {
     if has_others(site)? {
         return Ok(false);
@@ -55,6 +61,7 @@ fn has_others<W: Site>(site: &mut W) -> Result<bool, SiteError>
     ensures same { W.tells → W.state site.new ≡ W.state site.old }
     ensures none_fell { NoneFell (W.counts site.old) (W.counts site.new) }
     ensures cause { IfErr result (HasCause (W.counts site.old) (W.counts site.new)) }
+    ensures own { IfErr result IsOfFile }
 {
     if precedes_restarts(site.list(None)?) {
         return Ok(true);
@@ -94,8 +101,10 @@ fn write_restart<W: Site>(site: &mut W, restart: &Restart) -> Result<(), SiteErr
     requires { CanRestart restart.now }
     ensures written { W.tells → OnOk result (IsWritten restart.now (W.state site.old) (W.state site.new)) }
     ensures moments { W.tells → EachMoment (WritesFirstFile restart.now (W.state site.old)) (W.state site.old) (W.state site.new) }
+    ensures others { W.tells → (name : FileName) → same_file first_file name ≡ false → (W.state site.new).content name ≡ (W.state site.old).content name }
     ensures none_fell { NoneFell (W.counts site.old) (W.counts site.new) }
     ensures cause { IfErr result (HasCause (W.counts site.old) (W.counts site.new)) }
+    ensures own { IfErr result IsOfFile }
 {
     let bytes = restart_bytes(restart);
     site.write_at(FIRST_RESTART, 0, &bytes)?;

@@ -1,0 +1,59 @@
+use crate::files::{FIRST, LOG, MADE, SAVED, SECOND};
+use px_memsite::MemSite;
+use px_recovery::{MakeError, make};
+use px_site::{Fault, FileName};
+use std::test::Fail;
+
+#[test]
+fn a_store_is_made_in_an_empty_site(rt: HostRuntime) -> Result<(), Fail> {
+    let mut site = MemSite::new(rt.alloc())?;
+    make(&mut site, 2, 100)?;
+    assert_eq!(rt; site.content(FIRST), MADE.as_slice());
+    for file in [SECOND, LOG, FileName::Rec(1), FileName::Index] {
+        assert_eq!(rt; site.content(file).len(), 0);
+    }
+    // the write, the sync, and the two moments of each
+    assert_eq!(rt; site.moments(), 4);
+    Ok(())
+}
+
+#[test]
+fn no_store_is_made_where_there_is_something(rt: HostRuntime) -> Result<(), Fail> {
+    let mut torn = *SAVED;
+    torn[8] = 1;
+    for (file, bytes, made) in [
+        (FIRST, MADE.as_slice(), Err(MakeError::NotEmpty)),
+        (SECOND, SAVED.as_slice(), Err(MakeError::NotEmpty)),
+        (LOG, b"\0".as_slice(), Err(MakeError::NotEmpty)),
+        (FileName::Rec(1), b"a", Err(MakeError::NotEmpty)),
+        (FileName::Ilog, b"a", Err(MakeError::NotEmpty)),
+        (FIRST, torn.as_slice(), Ok(())),
+        (SECOND, torn.as_slice(), Ok(())),
+    ] {
+        let mut site = MemSite::new(rt.alloc())?;
+        site.put_file(file, bytes)?;
+        assert_eq!(rt; make(&mut site, 2, 100), made);
+        if made.is_err() {
+            assert_eq!(rt; site.content(file), bytes);
+        }
+    }
+    Ok(())
+}
+
+#[test]
+fn each_call_of_make_may_fail(rt: HostRuntime) -> Result<(), Fail> {
+    for (call, fault, again) in [
+        (0, Fault::List, Ok(())),
+        (1, Fault::List, Ok(())),
+        (2, Fault::Read, Ok(())),
+        (3, Fault::Read, Ok(())),
+        (4, Fault::Write, Ok(())),
+        // the store is there, but a crash may take it
+        (5, Fault::Sync, Err(MakeError::NotEmpty)),
+    ] {
+        let mut site = MemSite::failing(rt.alloc(), &[call])?;
+        assert_eq!(rt; make(&mut site, 2, 100), Err(MakeError::Fault(fault)));
+        assert_eq!(rt; make(&mut site, 2, 100), again);
+    }
+    Ok(())
+}
