@@ -1,0 +1,127 @@
+-- Which calls make a commit, and what they reply.
+use Rattle.std.proofs.Common.{◌≡◌, ◌⊎◌, ℕ, ◌+◌, ◌==◌, not, leb, Bool, true, false, cond, List, [], ◌∷◌, length, Option, Some, None, option_map, is_some, is_none, refl, ap, ◌∙◌, inl, inr, arith}
+use Rattle.std.proofs.lemmas.Bool.{cases_Bool}
+use Rattle.px_model.specs.declared.limits.TheConstants.{MOST_WRITES, MOST_TICKETS, MOST_VARIATIONS}
+use Rattle.px_model.specs.declared.machine.Ended.{Ended}
+use Rattle.px_model.specs.declared.machine.Open.{Open}
+use Rattle.px_model.specs.declared.row.Row.{Row}
+use Rattle.px_model.specs.Rows.{row_at}
+use Rattle.px_model.specs.Machine.{Machine, commits, view}
+use Rattle.px_calls.specs.declared.call.Call.{Call}
+use Rattle.px_calls.specs.declared.call.Call.TheVariants.{Begin, Get, Hold, Fetch, Find, Scan, Insert, Update, Delete, Commit, Rollback}
+use Rattle.px_calls.specs.declared.reply.Reply.{Reply}
+use Rattle.px_calls.specs.declared.reply.Reply.TheVariants.{Began, Held, Rows, Inserted, Updated, Deleted, Committed, EndedEmpty, OpenAlready, LimitBegins, NoTable, LimitKey, LimitBody, LimitWrites, LimitTickets, Conflict, Duplicate, Missing, TableFull}
+use Rattle.px_calls.specs.Steps.{open_of, if_open, row_reply, ticket_reply, unless_refused, write_refusal, begins_spent, has_table, fits_key, fits_body, is_full, kept_row, rows_of_table, rows_with_tag, reply_of, state_after, entries_of}
+use Rattle.px_logged.proofs.Grown.{committing, call_grows, grown_commits}
+use Rattle.px_play.proofs.Replies.{tells_commit}
+
+-- ---- replies that tell no commit
+
+begin_none : (opened spent : Bool) (n : ℕ) → tells_commit (cond opened OpenAlready (cond spent LimitBegins (Began n))) ≡ false
+begin_none true spent n = refl
+begin_none false true n = refl
+begin_none false false n = refl
+
+get_none : (has fits : Bool) (row : Option Row) → tells_commit (cond (not has) NoTable (cond (not fits) LimitKey (row_reply row))) ≡ false
+get_none false fits row = refl
+get_none true false row = refl
+get_none true true None = refl
+get_none true true (Some row) = refl
+
+hold_none : (has fits full none : Bool) (n : ℕ) → tells_commit (cond (not has) NoTable (cond (not fits) LimitKey (cond full LimitTickets (cond none Missing (Held n))))) ≡ false
+hold_none false fits full none n = refl
+hold_none true false full none n = refl
+hold_none true true true none n = refl
+hold_none true true false true n = refl
+hold_none true true false false n = refl
+
+rows_none : (has : Bool) (rows : List Row) → tells_commit (cond (not has) NoTable (Rows rows)) ≡ false
+rows_none false rows = refl
+rows_none true rows = refl
+
+done_none : (refused full : Bool) (refusal done : Reply) → tells_commit refusal ≡ false → tells_commit done ≡ false → tells_commit (cond refused refusal (cond full (TableFull MOST_VARIATIONS) done)) ≡ false
+done_none true full refusal done first second = first
+done_none false true refusal done first second = refl
+done_none false false refusal done first second = second
+
+none_open : (slot : Option Open) (reply : Open → Reply) → ((x : Open) → tells_commit (reply x) ≡ false) → tells_commit (if_open slot reply) ≡ false
+none_open None reply none = refl
+none_open (Some x) reply none = none x
+
+none_ticket : (row : Option Row) → tells_commit (ticket_reply row) ≡ false
+none_ticket None = refl
+none_ticket (Some row) = refl
+
+none_write : (m : Machine) (session : ℕ) (x : Open) (table : ℕ) (key : List ℕ) (fits : Bool) (reply : Reply) → tells_commit reply ≡ false
+    → tells_commit (unless_refused (write_refusal m session x table key fits) reply) ≡ false
+unfolding write_refusal
+none_write m session x table key fits reply none = each (has_table m table) (fits_key key) fits (leb MOST_WRITES (length x.writes)) _
+  where
+    each : (a b c d : Bool) (o : Option ℕ)
+        → tells_commit (unless_refused (cond (not a) (Some NoTable) (cond (not b) (Some LimitKey) (cond (not c) (Some LimitBody) (cond d (Some LimitWrites) (option_map Conflict o))))) reply) ≡ false
+    each false b c d o = refl
+    each true false c d o = refl
+    each true true false d o = refl
+    each true true true true o = refl
+    each true true true false None = none
+    each true true true false (Some n) = refl
+
+-- ---- each call
+
+-- the call makes a commit and replies so, or it makes none and doesn't
+abbrev pub RepliesCommit : Machine → ℕ → Call → Type 0
+RepliesCommit m session call =
+    ((reply_of m session call ≡ Committed (commits m + 1)) × (commits (state_after m session call) ≡ commits m + 1))
+    ⊎ ((tells_commit (reply_of m session call) ≡ false) × (commits (state_after m session call) ≡ commits m))
+
+counts : (m : Machine) (session : ℕ) (call : Call) → commits (state_after m session call) ≡ commits m + length (committing m session call)
+counts m session call = grown_commits m (state_after m session call) (committing m session call) (call_grows m session call)
+
+other_call : (m : Machine) (session : ℕ) (call : Call) → length (committing m session call) ≡ 0 → tells_commit (reply_of m session call) ≡ false → RepliesCommit m session call
+other_call m session call none other = inr (other, omega (arith, counts m session call, none))
+
+commit_call : (m : Machine) (session : ℕ) (slot : Option Open) → open_of m session ≡ slot → RepliesCommit m session Commit
+unfolding reply_of
+commit_call m session None is =
+    other_call m session Commit (ap (λ (s : Option Open). length (entries_of true s)) is)
+    (ap (λ (s : Option Open). tells_commit (if_open s (λ xact. cond (length xact.writes == 0) EndedEmpty (Committed (commits m + 1))))) is)
+commit_call m session (Some x) is =
+    let e : Ended = record { number = x.number; committed = true; snap = x.snap; writes = x.writes } in
+    let reply : reply_of m session Commit ≡ cond (length x.writes == 0) EndedEmpty (Committed (commits m + 1)) =
+    ap (λ (s : Option Open). if_open s (λ xact. cond (length xact.writes == 0) EndedEmpty (Committed (commits m + 1)))) is in
+    let entries : committing m session Commit ≡ cond (length x.writes == 0) [] (e ∷ []) = ap (entries_of true) is in
+    elim (cases_Bool (length x.writes == 0)) [
+      | inl empty ↦
+          other_call m session Commit (ap length (entries ∙ ap (λ (b : Bool). cond b [] (e ∷ [])) empty))
+          (ap tells_commit (reply ∙ ap (λ (b : Bool). cond b EndedEmpty (Committed (commits m + 1))) empty))
+      | inr some ↦
+          inl (
+            reply ∙ ap (λ (b : Bool). cond b EndedEmpty (Committed (commits m + 1))) some,
+            omega (arith, counts m session Commit, ap length (entries ∙ ap (λ (b : Bool). cond b [] (e ∷ [])) some)),
+          )
+    ]
+
+pub replies_commit : (m : Machine) (session : ℕ) (call : Call) → RepliesCommit m session call
+unfolding reply_of
+replies_commit m session Begin = other_call m session Begin refl (begin_none (is_some (open_of m session)) (begins_spent m) (m.begun + 1))
+replies_commit m session (Get table key) =
+    other_call m session (Get table key) refl (none_open (open_of m session) _ (λ x. get_none (has_table m table) (fits_key key) (row_at (table, key) (view m x))))
+replies_commit m session (Hold table key) =
+    other_call m session (Hold table key) refl
+    (none_open (open_of m session) _ (λ x. hold_none (has_table m table) (fits_key key) (leb MOST_TICKETS (length x.kept)) (is_none (row_at (table, key) (view m x))) (length x.kept + 1)))
+replies_commit m session (Fetch ticket) = other_call m session (Fetch ticket) refl (none_open (open_of m session) _ (λ x. none_ticket (kept_row x ticket)))
+replies_commit m session (Find table tag) =
+    other_call m session (Find table tag) refl (none_open (open_of m session) _ (λ x. rows_none (has_table m table) (rows_with_tag table tag (view m x))))
+replies_commit m session (Scan table) =
+    other_call m session (Scan table) refl (none_open (open_of m session) _ (λ x. rows_none (has_table m table) (rows_of_table table (view m x))))
+replies_commit m session (Insert table key tag body) =
+    other_call m session (Insert table key tag body) refl
+    (none_open (open_of m session) _ (λ x. none_write m session x table key (fits_body m body) _ (done_none (is_some (row_at (table, key) (view m x))) (is_full m table) Duplicate Inserted refl refl)))
+replies_commit m session (Update table key tag body) =
+    other_call m session (Update table key tag body) refl
+    (none_open (open_of m session) _ (λ x. none_write m session x table key (fits_body m body) _ (done_none (is_none (row_at (table, key) (view m x))) (is_full m table) Missing Updated refl refl)))
+replies_commit m session (Delete table key) =
+    other_call m session (Delete table key) refl
+    (none_open (open_of m session) _ (λ x. none_write m session x table key true _ (done_none (is_none (row_at (table, key) (view m x))) (is_full m table) Missing Deleted refl refl)))
+replies_commit m session Commit = commit_call m session (open_of m session) refl
+replies_commit m session Rollback = other_call m session Rollback refl (none_open (open_of m session) _ (λ x. refl))

@@ -1,0 +1,11 @@
+pub mod Acking
+pub mod Answering
+pub mod Calls
+pub mod Committing
+pub mod Inputs
+pub mod Parts
+pub mod Places
+pub mod Played
+pub mod Replies
+pub mod Stays
+pub mod Words

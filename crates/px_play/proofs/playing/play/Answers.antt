@@ -1,0 +1,79 @@
+use Rattle.std.proofs.Common.{◌≡◌, ◌+◌, ℕ, List, Some, sym, ap, subst, ◌∙◌, arith}
+use Rattle.px_site.proofs.Causes.{no_fall, then_none_fell}
+use Rattle.px_calls.specs.declared.call.Call.{Call}
+use Rattle.px_script.specs.Grammar.{command_line}
+use Rattle.px_script.specs.Progress.{Progress}
+use Rattle.px_play.specs.Input.{script_of}
+use Rattle.px_play.specs.Reading.{IsRead}
+use Rattle.px_play.specs.Turns.{HasTurnEnd}
+use Rattle.px_play.proofs.Inputs.{few_calls, nothing_handed}
+use Rattle.px_play.proofs.Played.{ends_input, keeps_end, keeps_more, keeps_none, played_more, played_none, reading_ends, turn_ends, turn_input}
+use Rattle.px_play.proofs.playing.play.Goals as goal
+
+pub loop-answered-init : goal.loop-answered-init
+loop-answered-init g c =
+    let state = g.W.Site.state in
+    let input = g.S.Source.left c.args.source.now in
+    let old = c.args.core.now in
+    record {
+      whole = c.requires.whole;
+      none_fell = no_fall;
+      source_none_fell = omega arith;
+      read = λ tells. subst (λ (p : Progress). IsRead input p input 0) (sym c.new-lines.ensures) (nothing_handed input);
+      played = λ tells tells_too restart changes stored. played_none restart changes (script_of input) old (state old.site) stored;
+      kept = λ tells tells_too restart changes stored told acks. keeps_none (script_of input) told old (state old.site) acks;
+    }
+
+pub returns-in-Err-clause-plays : goal.returns-in-Err-clause-plays
+returns-in-Err-clause-plays g c = λ tells tells_too restart changes stored.
+    let read = c.loop-answered.invariant.read tells_too in
+    reading_ends (g.S.Source.faults c.loop-answered.source) (g.S.Source.faults c.next_line.new.source) c.in-Err.status c.in-Err.ensures.cause (record {
+      may = c.in-Err.ensures.ends tells_too (g.S.Source.left c.args.source.now) read;
+      few = few_calls read;
+      played = c.loop-answered.invariant.played tells tells_too restart changes stored;
+    })
+
+pub returns-in-Err-turn-clause-input : goal.returns-in-Err-turn-clause-input
+returns-in-Err-turn-clause-input g c = λ tells.
+    let asked = c.in_default.ensures.asked tells (g.S.Source.left c.args.source.now) (c.loop-answered.invariant.read tells) in
+    let status = c.in-Err-turn.status in
+    ends_input (turn_input status (subst (λ (line : List ℕ). HasTurnEnd line (c.loop-answered.answered + 1) status) c.line.ensures c.in-Err-turn.ensures.ends) asked)
+
+pub returns-in-Err-turn-clause-plays : goal.returns-in-Err-turn-clause-plays
+returns-in-Err-turn-clause-plays g c = λ tells tells_too restart changes stored.
+    let read = c.loop-answered.invariant.read tells_too in
+    let played = c.loop-answered.invariant.played tells tells_too restart changes stored in
+    let asked = c.in_default.ensures.asked tells_too (g.S.Source.left c.args.source.now) read in
+    let status = c.in-Err-turn.status in
+    let said = c.in-Err-turn.ensures in
+    turn_ends g.W.Site.state status (subst (λ (line : List ℕ). HasTurnEnd line (c.loop-answered.answered + 1) status) c.line.ensures said.ends) asked (few_calls read) played
+    (λ none. said.unplayed (ap command_line c.line.ensures ∙ none))
+    (λ d is. said.plays tells d (ap command_line c.line.ensures ∙ is) restart _ played.stored)
+
+pub returns-in-Err-turn-clause-moments : goal.returns-in-Err-turn-clause-moments
+returns-in-Err-turn-clause-moments g c = λ tells tells_too restart changes stored before so_far told whole all.
+    let asked = c.in_default.ensures.asked tells_too (g.S.Source.left c.args.source.now) (c.loop-answered.invariant.read tells_too) in
+    keeps_end g.W.Site.state c.line.result.now (c.loop-answered.invariant.played tells tells_too restart changes stored)
+    (λ d is. (asked.command d (ap command_line (sym c.line.ensures) ∙ is)).0)
+    (c.loop-answered.invariant.kept tells tells_too restart changes stored before (record { so_far = so_far; told = told; whole = whole; all = all }))
+    c.in-Err-turn.ensures.unplayed (c.in-Err-turn.ensures.moments tells)
+
+pub loop-answered-preserved : goal.loop-answered-preserved
+loop-answered-preserved g c =
+    let known = c.loop-answered.invariant in
+    let said = c.in_default-turn.ensures in
+    let d : ℕ × Call = said.done.0 in
+    let is : command_line c.next_line.new.lines.line ≡ Some d = ap command_line (sym c.line.ensures) ∙ said.done.1 in
+    let next = λ (tells : g.S.Source.tells). (c.in_default.ensures.asked tells (g.S.Source.left c.args.source.now) (known.read tells)).command d is in
+    record {
+      whole = said.whole;
+      none_fell = then_none_fell known.none_fell said.none_fell;
+      source_none_fell = omega (arith, known.source_none_fell, c.next_line.ensures.none_fell);
+      read = λ tells. (next tells).1;
+      played = λ tells tells_too restart changes stored.
+          let played = known.played tells tells_too restart changes stored in
+          played_more d played (next tells_too).0 (said.plays tells d said.done.1 restart _ played.stored);
+      kept = λ tells tells_too restart changes stored told acks.
+          let played = known.played tells tells_too restart changes stored in
+          keeps_more d played (next tells_too).0 (said.plays tells d said.done.1 restart _ played.stored) (known.kept tells tells_too restart changes stored told acks) (said.moments tells d said.done.1);
+    }

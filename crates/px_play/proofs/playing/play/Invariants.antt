@@ -1,0 +1,27 @@
+use Rattle.std.proofs.Common.{◌≡◌, ◌≤◌, ℕ, List, None}
+use Rattle.px_site.specs.Cause.{NoneFell}
+use Rattle.px_restart.specs.declared.restart.Restart.{Restart}
+use Rattle.px_xlog.specs.declared.change.Change.{Change}
+use Rattle.px_stored.specs.Stored.{Stored}
+use Rattle.px_play.specs.Input.{script_of}
+use Rattle.px_play.specs.Reading.{IsRead}
+use Rattle.px_play.specs.Turns.{Acknowledges}
+use Rattle.px_play.proofs.Played.{HasPlayed, KeepsSoFar}
+use Rattle.px_play.proofs.playing.play.Given as goal
+
+abbrev pub invariant-loop-answered : goal.invariant-loop-answered
+invariant-loop-answered g l =
+    let tells = g.W.Site.tells in
+    let state = g.W.Site.state in
+    let input = g.S.Source.left l.fn.source in
+    let old = l.fn.core in
+    record {
+      whole : l.core.error ≡ None;
+      none_fell : NoneFell (g.W.Site.counts old.site) (g.W.Site.counts l.core.site);
+      source_none_fell : g.S.Source.faults l.fn.source ≤ g.S.Source.faults l.source;
+      read : g.S.Source.tells → IsRead input l.lines (g.S.Source.left l.source) l.answered;
+      played : tells → g.S.Source.tells → (restart : Restart) (changes : List Change) → Stored restart changes old.log old.machine (state old.site)
+          → HasPlayed restart changes (script_of input) old l.core (state old.site) (state l.core.site) l.answered;
+      kept : tells → g.S.Source.tells → (restart : Restart) (changes : List Change) → Stored restart changes old.log old.machine (state old.site)
+          → (told : List ℕ) → Acknowledges told old.machine (state old.site) → KeepsSoFar (script_of input) told old l.core (state old.site) (state l.core.site);
+    }

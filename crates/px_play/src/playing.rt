@@ -1,0 +1,62 @@
+ghost use Rattle.std.specs.Prelude.{◌≡◌, ◌≤◌, ◌++◌, ℕ, List, None};
+ghost use Rattle.px_site.specs.Cause.{NoneFell};
+ghost use Rattle.px_site.specs.State.{EachMoment};
+ghost use Rattle.px_restart.specs.declared.restart.Restart.{Restart};
+ghost use Rattle.px_model.specs.Machine.{commits};
+ghost use Rattle.px_calls.specs.Histories.{state_after_all};
+ghost use Rattle.px_xlog.specs.declared.change.Change.{Change};
+ghost use Rattle.px_stored.specs.Stored.{Stored};
+ghost use Rattle.px_play.specs.Acknowledged.{KeepsAcknowledged, TellsWhole, acknowledged};
+ghost use Rattle.px_play.specs.Causes.{HasPlayCause};
+ghost use Rattle.px_play.specs.Input.{EndsInput, script_of};
+ghost use Rattle.px_play.specs.Playing.{PlaysRight};
+
+use crate::reading::next_line;
+use crate::turns::turn;
+use px_calls::Status;
+use px_core::Core;
+use px_script::Lines;
+use px_site::Site;
+use px_source::Source;
+use std::alloc::Global;
+
+/// Plays the script of an input: answers its lines in order, and tells the reply to each before the next one is looked for.
+/// The core is one that keeps no error. The first error ends it:
+///
+/// - `Done`: every line to the input's end was answered.
+/// - `BadLine`: the line with this number, from 1, is outside the grammar, or no command.
+/// - `TooLong`: as many bytes were read as a script may have, and no read answered the end.
+/// - `SourceFault`: a read of the source failed.
+/// - `DiskFault`: a call on a file failed; never `Fault::Tell`.
+/// - `OutputFault`: a reply couldn't be told; a front of it may be.
+/// - `LogFull`: a call had a frame to write for which the log has no number left.
+/// - `OutOfMemory`: a call, a line or a reply's text wanted memory.
+///
+/// No other status comes. After `DiskFault`, and after `OutOfMemory`, the core may be broken.
+pub fn play<W: Site, S: Source>(alloc: Global, core: &mut Core<W>, source: &mut S) -> Status
+    requires whole { core.old.error ≡ None }
+    ensures cause { HasPlayCause (W.counts core.old.site) (W.counts core.new.site) (S.faults source.old) (S.faults source.new) result }
+    ensures none_fell { NoneFell (W.counts core.old.site) (W.counts core.new.site) }
+    ensures source_none_fell { S.faults source.old ≤ S.faults source.new }
+    ensures input { S.tells → EndsInput (S.left source.old) (S.left source.new) result }
+    ensures plays { W.tells → S.tells → (restart : Restart) (changes : List Change)
+        → Stored restart changes core.old.log core.old.machine (W.state core.old.site)
+        → PlaysRight restart changes core.old core.new (S.left source.old) (S.left source.new) (W.state core.old.site) (W.state core.new.site) result }
+    ensures moments { W.tells → S.tells → (restart : Restart) (changes : List Change)
+        → Stored restart changes core.old.log core.old.machine (W.state core.old.site)
+        → (before so_far : List ℕ) → (W.state core.old.site).now.told ≡ before ++ so_far → TellsWhole so_far
+        → acknowledged core.old.machine.before so_far ≡ commits core.old.machine
+        → EachMoment (KeepsAcknowledged (state_after_all core.old.machine (script_of (S.left source.old))) before) (W.state core.old.site) (W.state core.new.site) }
+{
+    let mut lines = Lines::new(alloc);
+    let mut text = Vec::new(alloc);
+    for answered in 0..u64::MAX {
+        if let Err(status) = next_line(&mut lines, source, answered) {
+            return status;
+        }
+        if let Err(status) = turn(alloc, core, lines.line(), answered + 1, &mut text) {
+            return status;
+        }
+    }
+    Status::TooLong
+}

@@ -1,0 +1,101 @@
+// One line of a script: its call, the core's reply, and that the reply is told.
+ghost use Rattle.std.specs.Prelude.{◌≡◌, ℕ, List, Some, None, IfErr, OnOk};
+ghost use Rattle.px_site.specs.Cause.{NoneFell};
+ghost use Rattle.px_restart.specs.declared.restart.Restart.{Restart};
+ghost use Rattle.px_calls.specs.declared.call.Call.{Call};
+ghost use Rattle.px_script.specs.Grammar.{command_line};
+ghost use Rattle.px_xlog.specs.declared.change.Change.{Change};
+ghost use Rattle.px_stored.specs.Stored.{Stored};
+ghost use Rattle.px_play.specs.Causes.{HasPlayCause};
+ghost use Rattle.px_play.specs.Turns.{HasAnswerEnd, HasTellEnd, HasTurnEnd, KeepsWithin, TellsReply, TurnsRight, status_of};
+
+use crate::commands::command;
+use px_calls::{Call, Reply, Status, reply_text};
+use px_core::{Core, CoreError};
+use px_model::Session;
+use px_site::{Site, SiteError};
+use std::alloc::Global;
+
+/// Answers a line, whose number counts from 1: its call is made, and the reply told. `text` is room for the reply's text,
+/// whatever stands in it.
+///
+/// - `BadLine`: the line is no command; then nothing is done.
+/// - `DiskFault`, `LogFull`, `OutOfMemory`: the core gave up, or the reply's text or the line's call wanted memory.
+/// - `OutputFault`: the reply was made, and a front of it told.
+pub(crate) fn turn<W: Site>(
+    alloc: Global,
+    core: &mut Core<W>,
+    line: &[u8],
+    number: u64,
+    text: &mut Vec<u8>,
+) -> Result<(), Status>
+    requires { core.old.error ≡ None }
+    ensures done { OnOk result ((c : ℕ × Call) × (command_line line.now ≡ Some c)) }
+    ensures ends { IfErr result (HasTurnEnd line.now number) }
+    ensures cause { IfErr result (HasPlayCause (W.counts core.old.site) (W.counts core.new.site) 0 0) }
+    ensures whole { OnOk result (core.new.error ≡ None) }
+    ensures none_fell { NoneFell (W.counts core.old.site) (W.counts core.new.site) }
+    ensures unplayed { command_line line.now ≡ None → core.new ≡ core.old }
+    ensures plays { W.tells → (c : ℕ × Call) → command_line line.now ≡ Some c
+        → (restart : Restart) (changes : List Change) → Stored restart changes core.old.log core.old.machine (W.state core.old.site)
+        → TurnsRight restart changes c core.old core.new (W.state core.old.site) (W.state core.new.site) result }
+    ensures moments { W.tells → (c : ℕ × Call) → command_line line.now ≡ Some c
+        → KeepsWithin c core.old (W.state core.old.site) (W.state core.new.site) }
+{
+    let (session, call) = command(alloc, line, number)?;
+    answer(core, session, &call, text)
+}
+
+/// Makes a call and tells its reply.
+fn answer<W: Site>(
+    core: &mut Core<W>,
+    session: Session,
+    call: &Call,
+    text: &mut Vec<u8>,
+) -> Result<(), Status>
+    requires { core.old.error ≡ None }
+    ensures ends { IfErr result HasAnswerEnd }
+    ensures cause { IfErr result (HasPlayCause (W.counts core.old.site) (W.counts core.new.site) 0 0) }
+    ensures whole { OnOk result (core.new.error ≡ None) }
+    ensures none_fell { NoneFell (W.counts core.old.site) (W.counts core.new.site) }
+    ensures plays { W.tells → (restart : Restart) (changes : List Change) → Stored restart changes core.old.log core.old.machine (W.state core.old.site)
+        → TurnsRight restart changes (session, call.now) core.old core.new (W.state core.old.site) (W.state core.new.site) result }
+    ensures moments { W.tells → KeepsWithin (session, call.now) core.old (W.state core.old.site) (W.state core.new.site) }
+{
+    let reply = match core.step(session, call) {
+        Ok(reply) => reply,
+        Err(error) => return Err(status_of(error)),
+    };
+    tell_reply(core, &reply, text)
+}
+
+fn status_of(error: CoreError) -> Status
+    ensures { result ≡ status_of error }
+{
+    match error {
+        CoreError::OutOfMemory | CoreError::Broken(SiteError::OutOfMemory) => Status::OutOfMemory,
+        CoreError::Fault(fault) | CoreError::Broken(SiteError::Fault(fault)) => {
+            Status::DiskFault(fault)
+        }
+        CoreError::Damaged { file, place } => Status::Damaged { file, place },
+        CoreError::LogFull(number) => Status::LogFull(number),
+    }
+}
+
+/// Tells a reply. `OutputFault`: a front of it was told; `OutOfMemory`: nothing was.
+fn tell_reply<W: Site>(core: &mut Core<W>, reply: &Reply, text: &mut Vec<u8>) -> Result<(), Status>
+    ensures tells { W.tells → TellsReply reply.now (W.state core.old.site) (W.state core.new.site) result }
+    ensures rest { core.new ≡ record core.old { site = core.new.site } }
+    ensures cause { IfErr result (HasTellEnd (W.counts core.old.site) (W.counts core.new.site)) }
+    ensures none_fell { NoneFell (W.counts core.old.site) (W.counts core.new.site) }
+{
+    text.clear();
+    if reply_text(reply, text).is_err() {
+        return Err(Status::OutOfMemory);
+    }
+    match core.tell(text.as_slice()) {
+        Ok(()) => Ok(()),
+        Err(SiteError::Fault(_)) => Err(Status::OutputFault),
+        Err(SiteError::OutOfMemory) => Err(Status::OutOfMemory),
+    }
+}
