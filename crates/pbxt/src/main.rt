@@ -1,0 +1,62 @@
+//! The program: the words of its command line, standard input, and a store in the folder `pbxt-store` of the folder that it
+//! runs in (docs/FORMATS.md). What it does is `pbxt_run`'s contract; its exit status is the status's code.
+#![tactic(auto)]
+
+use px_calls::Status;
+use px_model::{Bytes, WordList};
+use px_realsite::RealSite;
+use px_run::pbxt_run;
+use px_site::Fault;
+use px_source::StdinSource;
+use std::alloc::AllocError;
+use std::env;
+use std::fs::File;
+use std::io::{self, ErrorKind};
+use std::process::ExitCode;
+
+/// Where the store's files lie.
+const FOLDER: &str = "pbxt-store";
+
+fn main(rt: HostRuntime) -> ExitCode {
+    let status = match run(&rt) {
+        Ok(status) => status,
+        Err(_) => Status::OutOfMemory,
+    };
+    ExitCode::from(status.code())
+}
+
+/// Fails only for want of memory, before anything is done.
+fn run(rt: &HostRuntime) -> Result<Status, AllocError> {
+    let Ok(_streams) = in_place_of_streams(rt) else {
+        return Ok(Status::DiskFault(Fault::Read));
+    };
+    let words = words_of(rt)?;
+    let mut source = StdinSource::new(rt.clone()?);
+    let mut site = RealSite::new(rt.clone()?, FOLDER)?;
+    Ok(pbxt_run(rt.alloc(), &words, &mut source, &mut site))
+}
+
+/// Takes the numbers of those of the three streams that are closed. Else the system would give one of them to a file of the
+/// store, and what is told would be written into that file. A folder stands in their place: it can be neither read nor
+/// written as a stream, so a closed stream still answers its fault. Where none is closed, three numbers more are taken.
+fn in_place_of_streams(rt: &HostRuntime) -> io::Result<[File; 3]> {
+    let input = File::open(rt, "/")?;
+    let output = File::open(rt, "/")?;
+    let errors = File::open(rt, "/")?;
+    Ok([input, output, errors])
+}
+
+/// The words of the command line, without the program's name. Where one is no text, no word: they are no command.
+fn words_of(rt: &HostRuntime) -> Result<WordList, AllocError> {
+    let mut words = Vec::new(rt.alloc());
+    match env::args(rt) {
+        Ok(args) => {
+            for word in args.skip(1) {
+                words.push(Bytes::from_vec(word.into_bytes()))?;
+            }
+        }
+        Err(error) if error.kind() == ErrorKind::OutOfMemory => return Err(AllocError),
+        Err(_) => {}
+    }
+    Ok(WordList::from_vec(words))
+}

@@ -1,0 +1,209 @@
+-- Where a call of the program is bound to succeed, it is done, unless memory is wanted.
+use Rattle.std.proofs.Common.{◌≡◌, ◌≢◌, ℕ, ◌+◌, ◌-◌, ◌<◌, ◌≤◌, List, [], ◌∷◌, ◌++◌, length, map, take, drop, Option, Some, None, refl, sym, ap, subst, ◌∙◌, append_assoc, inl, inr, arith, length-append}
+use Rattle.std.proofs.lemmas.List.{append-nil}
+use Rattle.px_site.specs.Cause.{Counts}
+use Rattle.px_site.specs.State.{State}
+use Rattle.px_source.specs.Source.{Rose as ReadRose}
+use Rattle.px_restart.specs.declared.restart.Restart.{Restart}
+use Rattle.px_restart.proofs.Restarts.{restart_long}
+use Rattle.px_model.specs.Machine.{Machine}
+use Rattle.px_calls.specs.declared.call.Call.{Call}
+use Rattle.px_calls.specs.declared.status.Status.{Status}
+use Rattle.px_calls.specs.declared.status.Status.TheVariants.{Done, BadLine, NotEmpty, DiskFault, SourceFault, OutputFault, OutOfMemory, LogFull, TooLong}
+use Rattle.px_calls.specs.Histories.{by, FirstCommitterWins, machine_after, state_after_all}
+use Rattle.px_calls.specs.Steps.{state_after}
+use Rattle.px_plain.proofs.EveryHistory.{first_committer_wins}
+use Rattle.px_script.specs.Grammar.{command_line}
+use Rattle.px_script.specs.Lines.{complete_after, rest_after, complete_lines, open_line, last_line, lines_at_end}
+use Rattle.px_xlog.specs.declared.change.Change.{Change}
+use Rattle.px_xlog.specs.Reading.{Files, first_restart, second_restart, commits_in, rows_in, base_after}
+use Rattle.px_logged.specs.Logged.{logged, logged_by_all}
+use Rattle.px_recovery.specs.Making.{IsFree, first_file, second_file}
+use Rattle.px_recovery.specs.Opening.{opened_machine}
+use Rattle.px_play.specs.Input.{AreCommands, EndsAt, EndsInput, IsFirstBad, IsOverlong, script_of}
+use Rattle.px_play.specs.Playing.{StopsFull}
+use Rattle.px_play.proofs.Calls.{calls_nil, calls_none, calls_some, long_none}
+use Rattle.px_play.proofs.Parts.{complete_behind, first_after, rest_behind, rest_single}
+use Rattle.px_play.proofs.Places.{parts_at}
+use Rattle.px_run.specs.declared.command.Command.{Command}
+use Rattle.px_run.specs.Causes.{HasStatusCause}
+use Rattle.px_run.specs.Dumping.{DumpsRight}
+use Rattle.px_run.specs.Making.{MakesRight}
+use Rattle.px_run.specs.Premises.{CanRun, IsDoneOrShort, IsEmpty, NoneRose}
+use Rattle.px_run.specs.Running.{RunsRight}
+
+-- ---- `make` and `dump`
+
+empty_free : (files : Files) → IsEmpty files → IsFree files
+empty_free files empty = record {
+  others = λ name first second. empty name;
+  no_restart = record {
+    first = λ restart at. omega (arith, restart_long (first_restart files) restart at, ap length (empty first_file));
+    second = λ restart at. omega (arith, restart_long (second_restart files) restart at, ap length (empty second_file));
+  };
+}
+
+pub complete_make : (command : Option Command) (tables short : ℕ) (a c : State) (x z : Counts) (reads reads_now : ℕ) (status : Status) → IsEmpty a.content → NoneRose x z → HasStatusCause command x z reads reads_now status → MakesRight tables short a c x z status
+    → IsDoneOrShort status
+complete_make command tables short a c x z reads reads_now Done empty none cause makes = tt
+complete_make command tables short a c x z reads reads_now OutOfMemory empty none cause makes = tt
+complete_make command tables short a c x z reads reads_now OutputFault empty none cause makes = absurd (none.tell_faults cause.1)
+complete_make command tables short a c x z reads reads_now NotEmpty empty none cause makes = absurd (makes.ends.1.used (empty_free a.content empty))
+complete_make command tables short a c x z reads reads_now (DiskFault fault) empty none cause makes = absurd (none.faults fault cause.2)
+complete_make command tables short a c x z reads reads_now _ empty none cause makes = absurd makes.ends
+
+pub complete_dump : (command : Option Command) (restart : Restart) (changes : List Change) (a c : State) (x z : Counts) (reads reads_now : ℕ) (status : Status) → NoneRose x z → HasStatusCause command x z reads reads_now status
+    → DumpsRight restart changes a c x z status → IsDoneOrShort status
+complete_dump command restart changes a c x z reads reads_now Done none cause dumps = tt
+complete_dump command restart changes a c x z reads reads_now OutOfMemory none cause dumps = tt
+complete_dump command restart changes a c x z reads reads_now OutputFault none cause dumps = absurd (none.tell_faults cause.1)
+complete_dump command restart changes a c x z reads reads_now (DiskFault fault) none cause dumps = absurd (none.faults fault cause.2)
+complete_dump command restart changes a c x z reads reads_now _ none cause dumps = absurd dumps.ends
+
+-- ---- lines that are all commands
+
+-- the first of them is one
+record Begins (line : List ℕ) (lines : List (List ℕ)) : Type 0 where
+  call : ℕ × Call
+  is : command_line line ≡ Some call
+  others : AreCommands lines
+
+begins : (line : List ℕ) (lines : List (List ℕ)) → AreCommands (line ∷ lines) → Begins line lines
+begins line lines commands = by_call (command_line line) refl
+  where
+    by_call : (o : Option (ℕ × Call)) → command_line line ≡ o → Begins line lines
+    by_call None is = absurd (omega (arith, commands, ap length (calls_none line lines is)))
+    by_call (Some call) is = record { call = call; is = is; others = omega (arith, commands, ap length (calls_some line lines call is)) }
+
+-- so is each front of them
+front_commands : (front back : List (List ℕ)) → AreCommands (front ++ back) → AreCommands front × AreCommands back
+front_commands [] back commands = (ap length calls_nil, commands)
+front_commands (line ∷ front) back commands =
+    let first = begins line (front ++ back) commands in
+    let others = front_commands front back first.others in
+    (omega (arith, others.0, ap length (calls_some line front first.call first.is)), others.1)
+
+none_bad : (lines : List (List ℕ)) (k : ℕ) → AreCommands lines → IsFirstBad lines k → ⊥
+none_bad lines k commands bad = omega (arith, commands, bad.there)
+
+-- the lines of an input are those that are complete in a front of it, and others
+lines_parts : (taken left : List ℕ) → lines_at_end (taken ++ left) ≡ complete_lines taken ++ (complete_after (open_line taken) left ++ last_line (rest_after (open_line taken) left))
+unfolding complete_lines open_line
+lines_parts taken left =
+    ap (λ (lines : List (List ℕ)). lines ++ last_line (rest_after [] (taken ++ left))) (complete_behind [] taken left)
+    ∙ ap (λ (rest : List ℕ). complete_after [] taken ++ complete_after (rest_after [] taken) left ++ last_line rest) (rest_behind [] taken left)
+    ∙ append_assoc (complete_after [] taken) (complete_after (rest_after [] taken) left) (last_line (rest_after (rest_after [] taken) left))
+
+-- the line that was begun is the first of these others, and as long
+record Goes (begun : List ℕ) (lines : List (List ℕ)) : Type 0 where
+  line : List ℕ
+  others : List (List ℕ)
+  are : lines ≡ line ∷ others
+  long : length begun ≤ length line
+
+last_some : (line : List ℕ) → 0 < length line → last_line line ≡ line ∷ []
+last_some [] some = absurd (omega (arith, some))
+last_some (byte ∷ line) some = refl
+
+goes_on : (begun left : List ℕ) → 0 < length begun → Goes begun (complete_after begun left ++ last_line (rest_after begun left))
+goes_on begun left some = by_lines (complete_after begun left) refl
+  where
+    by_lines : (lines : List (List ℕ)) → complete_after begun left ≡ lines → Goes begun (complete_after begun left ++ last_line (rest_after begun left))
+    by_lines [] is =
+        let rest : rest_after begun left ≡ begun ++ left = rest_single begun left is in
+        record {
+          line = begun ++ left;
+          others = [];
+          are = ap (λ (lines : List (List ℕ)). lines ++ last_line (rest_after begun left)) is ∙ ap last_line rest ∙ last_some (begun ++ left) (omega (arith, some, length-append begun left));
+          long = omega (arith, length-append begun left);
+        }
+    by_lines (line ∷ lines) is = record {
+      line = line;
+      others = lines ++ last_line (rest_after begun left);
+      are = ap (λ (all : List (List ℕ)). all ++ last_line (rest_after begun left)) is;
+      long = first_after begun left line lines is;
+    }
+
+-- no line is too long
+none_overlong : (taken left : List ℕ) (k : ℕ) → AreCommands (lines_at_end (taken ++ left)) → IsOverlong taken k → ⊥
+none_overlong taken left k commands over =
+    let on = goes_on (open_line taken) left (omega (arith, over.too_long)) in
+    let parts = front_commands (complete_lines taken) (complete_after (open_line taken) left ++ last_line (rest_after (open_line taken) left)) (subst AreCommands (lines_parts taken left) commands) in
+    let first = begins on.line on.others (subst AreCommands on.are parts.1) in
+    not_both (command_line on.line) first.call (long_none on.line (omega (arith, over.too_long, on.long))) first.is
+  where
+    not_both : (o : Option (ℕ × Call)) (c : ℕ × Call) → o ≡ None → o ≡ Some c → ⊥
+    not_both o c none some = cc
+
+none_is_bad : (input taken left : List ℕ) (k : ℕ) → input ≡ taken ++ left → AreCommands (lines_at_end input) → EndsAt taken left (BadLine k) → ⊥
+none_is_bad input taken left k in_order commands ends =
+    let all : AreCommands (lines_at_end (taken ++ left)) = subst (λ (l : List ℕ). AreCommands (lines_at_end l)) in_order commands in
+    elim ends as (λ _. ⊥) [
+      | inl bad ↦ none_bad (complete_lines taken) k (front_commands (complete_lines taken) (complete_after (open_line taken) left ++ last_line (rest_after (open_line taken) left)) (subst AreCommands (lines_parts taken left) all)).0 bad
+      | inr other ↦ elim other as (λ _. ⊥) [
+        | inl over ↦ none_overlong taken left k all over
+        | inr last ↦
+            let whole : taken ++ left ≡ taken = ap (λ (l : List ℕ). taken ++ l) last.0.nothing_left ∙ append-nil taken in
+            none_bad (lines_at_end taken) k (subst (λ (l : List ℕ). AreCommands (lines_at_end l)) whole all) last.1
+      ]
+    ]
+
+-- ---- a log with room
+
+logged_both : (m : Machine) (calls later : List (ℕ × Call)) → logged_by_all m (calls ++ later) ≡ logged_by_all m calls ++ logged_by_all (state_after_all m calls) later
+logged_both m [] later = refl
+logged_both m (c ∷ calls) later =
+    ap (λ (l : List Change). logged m c.0 c.1 ++ l) (logged_both (state_after m c.0 c.1) calls later)
+    ∙ sym (append_assoc (logged m c.0 c.1) (logged_by_all (state_after m c.0 c.1) calls) (logged_by_all (state_after_all (state_after m c.0 c.1) calls) later))
+
+some_more : (changes : List Change) → changes ≢ [] → 0 < length changes
+some_more [] none = absurd (none refl)
+some_more (change ∷ changes) none = omega arith
+
+not_full : (restart : Restart) (changes : List Change) (input : List ℕ) (answered n : ℕ) → CanRun restart changes input → StopsFull changes (opened_machine restart changes) (script_of input) answered n → ⊥
+not_full restart changes input answered n can full =
+    let m : Machine = opened_machine restart changes in
+    let script : List (ℕ × Call) = script_of input in
+    let front : List (ℕ × Call) = take answered script in
+    let back : List (ℕ × Call) = drop (answered + 1) script in
+    let one : List Change = logged (state_after_all m front) full.next.0 full.next.1 in
+    let rest : List Change = logged_by_all (state_after (state_after_all m front) full.next.0 full.next.1) back in
+    let parts : logged_by_all m script ≡ logged_by_all m front ++ (one ++ rest) = ap (logged_by_all m) (parts_at script answered full.next full.there) ∙ logged_both m front (full.next ∷ back) in
+    omega (
+      arith,
+      can.numbers,
+      full.none_left,
+      full.number,
+      some_more one full.writes,
+      length-append changes (logged_by_all m script),
+      length-append changes (logged_by_all m front),
+      ap length parts,
+      length-append (logged_by_all m front) (one ++ rest),
+      length-append one rest,
+    )
+
+-- ---- `run`
+
+pub complete_run : (command : Option Command) (restart : Restart) (changes : List Change) (input left : List ℕ) (a c : State) (x z : Counts) (reads reads_now : ℕ) (status : Status) → CanRun restart changes input → NoneRose x z → (ReadRose reads reads_now → ⊥)
+    → HasStatusCause command x z reads reads_now status → EndsInput input left status → RunsRight restart changes input left a c x z status → IsDoneOrShort status
+complete_run command restart changes input left a c x z reads reads_now Done can none no_read cause ends runs = tt
+complete_run command restart changes input left a c x z reads reads_now OutOfMemory can none no_read cause ends runs = tt
+complete_run command restart changes input left a c x z reads reads_now OutputFault can none no_read cause ends runs = absurd (none.tell_faults cause.1)
+complete_run command restart changes input left a c x z reads reads_now (DiskFault fault) can none no_read cause ends runs = absurd (none.faults fault cause.2)
+complete_run command restart changes input left a c x z reads reads_now SourceFault can none no_read cause ends runs = absurd (no_read cause.1)
+complete_run command restart changes input left a c x z reads reads_now (BadLine k) can none no_read cause ends runs = absurd (none_is_bad input ends.taken left k ends.in_order can.commands ends.fits)
+complete_run command restart changes input left a c x z reads reads_now (LogFull n) can none no_read cause ends runs = absurd (not_full restart changes input (runs.whole - 1) n can runs.ends.1)
+complete_run command restart changes input left a c x z reads reads_now TooLong can none no_read cause ends runs =
+    absurd (omega (arith, can.below, ends.fits.0, ap length ends.in_order, length-append ends.taken left))
+complete_run command restart changes input left a c x z reads reads_now _ can none no_read cause ends runs = absurd runs.ends
+
+-- ---- the first committer
+
+one_by_one : (m : Machine) (calls : List (ℕ × Call)) → machine_after m (map (λ c. by c.0 c.1) calls) ≡ state_after_all m calls
+one_by_one m [] = refl
+one_by_one m (c ∷ calls) = one_by_one (state_after m c.0 c.1) calls
+
+pub first_wins : (restart : Restart) (changes : List Change) (calls : List (ℕ × Call)) → FirstCommitterWins (state_after_all (opened_machine restart changes) calls).ended
+first_wins restart changes calls =
+    subst (λ (m : Machine). FirstCommitterWins m.ended) (one_by_one (opened_machine restart changes) calls)
+    (first_committer_wins restart.tables restart.short (rows_in changes) (commits_in changes) (base_after restart changes) (map (λ c. by c.0 c.1) calls))

@@ -1,0 +1,14 @@
+pub mod Alike
+pub mod Closed
+pub mod Complete
+pub mod Counted
+pub mod Dumped
+pub mod Ending
+pub mod Lent
+pub mod Lines
+pub mod Making
+pub mod Opening
+pub mod Pieces
+pub mod Quiet
+pub mod Scripted
+pub mod Scripts

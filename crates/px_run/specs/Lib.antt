@@ -1,0 +1,10 @@
+pub mod Causes
+pub mod Command
+pub mod Dumping
+pub mod Examples
+pub mod Making
+pub mod Premises
+pub mod Running
+pub mod Statuses
+pub mod Told
+pub mod Working

@@ -1,0 +1,37 @@
+-- Where a call of the program is bound to succeed, want of memory aside.
+use Rattle.std.specs.Prelude.{◌≡◌, ◌<◌, ◌≤◌, ℕ, List, [], length}
+use Rattle.px_site.specs.declared.error.Fault.{Fault}
+use Rattle.px_site.specs.declared.name.FileName.{FileName}
+use Rattle.px_site.specs.Cause.{Counts, Rose}
+use Rattle.px_restart.specs.declared.restart.Restart.{Restart}
+use Rattle.px_calls.specs.declared.status.Status.{Status}
+use Rattle.px_calls.specs.declared.status.Status.TheVariants.{Done, OutOfMemory}
+use Rattle.px_script.specs.Lines.{lines_at_end}
+use Rattle.px_script.specs.Progress.{longest_input}
+use Rattle.px_xlog.specs.declared.change.Change.{Change}
+use Rattle.px_xlog.specs.Log.{most_frames}
+use Rattle.px_xlog.specs.Reading.{Files}
+use Rattle.px_recovery.specs.Opening.{opened_machine}
+use Rattle.px_play.specs.Input.{AreCommands, script_of}
+use Rattle.px_play.specs.Playing.{changes_after}
+
+-- no call of the site failed
+pub record NoneRose (old new : Counts) : Type 0 where
+  pub faults : (fault : Fault) → Rose (old.faults fault) (new.faults fault) → ⊥
+  pub tell_faults : Rose old.tell_faults new.tell_faults → ⊥
+  pub shorts : Rose old.shorts new.shorts → ⊥
+
+abbrev pub IsDoneOrShort : Status → Type 0
+IsDoneOrShort Done = Unit {0}
+IsDoneOrShort OutOfMemory = Unit {0}
+IsDoneOrShort _ = ⊥
+
+-- no file has a byte
+abbrev pub IsEmpty : Files → Type 0
+IsEmpty files = (name : FileName) → files name ≡ []
+
+-- an input that `run` can answer whole
+pub record CanRun (restart : Restart) (changes : List Change) (input : List ℕ) : Type 0 where
+  pub commands : AreCommands (lines_at_end input)
+  pub below : length input < longest_input
+  pub numbers : length (changes_after changes (opened_machine restart changes) (script_of input)) ≤ most_frames

@@ -1,0 +1,95 @@
+-- What is done before the line that a call ends with, for private clauses.
+use Rattle.std.specs.Prelude.{◌≡◌, ◌⊎◌, ⊤, ℕ, ◌+◌, ◌-◌, ◌<◌, ◌≤◌, List, [], ◌++◌, length, map, take, Result, Ok, Err}
+use Rattle.px_site.specs.State.{State, EachMoment, spoke}
+use Rattle.px_site.specs.Cause.{Counts, Rose}
+use Rattle.px_restart.specs.declared.restart.Restart.{Restart}
+use Rattle.px_model.specs.declared.row.Row.{Row}
+use Rattle.px_calls.specs.declared.status.Status.{Status}
+use Rattle.px_calls.specs.declared.status.Status.TheVariants.{Done, Usage, NoStore, Damaged, OutputFault, OutOfMemory}
+use Rattle.px_calls.specs.Closing.{closing_line}
+use Rattle.px_calls.specs.Texts.{row_line}
+use Rattle.px_script.specs.Lines.{lines_at_end}
+use Rattle.px_xlog.specs.declared.change.Change.{Change}
+use Rattle.px_xlog.specs.Images.{IsSettledStore}
+use Rattle.px_xlog.specs.Log.{most_frames}
+use Rattle.px_xlog.specs.Reading.{rows_in}
+use Rattle.px_logged.specs.Logged.{logged_by_all}
+use Rattle.px_recovery.specs.Opening.{opened_machine}
+use Rattle.px_play.specs.Input.{script_of}
+use Rattle.px_play.specs.Playing.{UnlessBroken}
+use Rattle.px_play.specs.Told.{joined, IsTold}
+use Rattle.px_run.specs.Dumping.{DumpEnds, OnDone, dump_pieces}
+use Rattle.px_run.specs.Making.{MakeEnds, made_pieces}
+use Rattle.px_run.specs.Running.{HasAll, RunEnds, log_after, run_pieces}
+use Rattle.px_run.specs.Told.{HasFilesOf, TellFailed}
+
+-- ---- one piece
+
+-- a piece is told whole, or a front of it at an output's fault, or nothing for want of memory
+abbrev pub TellsPiece : List ℕ → State → State → Result (Unit {0}) Status → Type 0
+TellsPiece piece old new (Ok _) = new ≡ spoke piece piece old
+TellsPiece piece old new (Err OutputFault) = (n : ℕ) × (new ≡ spoke piece (take n piece) old)
+TellsPiece piece old new (Err OutOfMemory) = new ≡ old
+TellsPiece piece old new (Err _) = ⊥
+
+abbrev pub HasTellCause : Counts → Counts → Status → Type 0
+HasTellCause old new OutputFault = Rose old.tell_faults new.tell_faults
+HasTellCause old new OutOfMemory = ⊤
+HasTellCause old new _ = ⊥
+
+-- the line that the status ends with was told, all of it unless the tell failed, and nothing else was done
+pub record Closes (status : Status) (old new : State) (counts counts_now : Counts) : Type 0 where
+  pub front : ℕ
+  pub is : (new ≡ spoke (closing_line status) (take front (closing_line status)) old) ⊎ ((new ≡ old) × (front ≡ 0))
+  pub cut : front < length (closing_line status) → TellFailed counts counts_now
+
+-- nothing was done but to tell
+pub record OnlyTells (old new : State) : Type 0 where
+  pub content : new.content ≡ old.content
+  pub files : new.now.files ≡ old.now.files
+  pub moments : EachMoment (HasFilesOf old.now) old new
+
+-- ---- a refusal
+
+-- nothing is told, and nothing was done where no store is
+abbrev pub RefusesQuietly : (old new : State) → Status → Type 0
+RefusesQuietly old new Usage = new ≡ old
+RefusesQuietly old new NoStore = new ≡ old
+RefusesQuietly old new (Damaged file place) = new.now.told ≡ old.now.told
+RefusesQuietly old new _ = ⊤
+
+-- ---- each word
+
+pub record MakesStore (tables short : ℕ) (old new : State) (status : Status) : Type 0 where
+  pub whole : ℕ
+  pub ends : MakeEnds tables short old new whole status
+  pub told : IsTold (made_pieces tables short) whole status old new
+
+abbrev pub HasDumpCause : Counts → Counts → Status → Type 0
+HasDumpCause old new Done = ⊤
+HasDumpCause old new status = HasTellCause old new status
+
+-- the rows are told, one line after the other
+abbrev pub TellsLines : List Row → State → State → Result (Unit {0}) Status → Type 0
+TellsLines rows old new (Ok _) = new.now.told ≡ old.now.told ++ joined (map row_line rows)
+TellsLines rows old new (Err status) = (whole : ℕ) × (whole < length rows) × IsTold (map row_line rows) whole status old new
+
+pub record TellsRows (rows : List Row) (old new : State) (status : Status) : Type 0 where
+  pub whole : ℕ
+  pub ends : DumpEnds rows whole status
+  pub told : IsTold (dump_pieces rows) whole status old new
+
+pub record DumpsRows (restart : Restart) (changes : List Change) (old new : State) (status : Status) : Type 0 where
+  pub tells : TellsRows (rows_in changes) old new status
+  pub holds : IsSettledStore restart changes old → OnDone status (IsSettledStore restart changes new)
+
+pub record RunsScript (restart : Restart) (changes : List Change) (input left : List ℕ) (old new : State) (status : Status) : Type 0 where
+  pub taken : List ℕ
+  pub in_order : input ≡ taken ++ left
+  pub whole : ℕ
+  pub read_before : whole ≤ 1 + length (lines_at_end taken)
+  pub ends : RunEnds restart changes (script_of input) taken whole status
+  pub told : IsTold (run_pieces restart changes (script_of input)) whole status old new
+  pub holds : UnlessBroken status (HasAll restart changes (take (whole - 1) (script_of input)) new)
+  pub numbered : (logged_by_all (opened_machine restart changes) (take (whole - 1) (script_of input)) ≡ [])
+      ⊎ (length (log_after restart changes (take (whole - 1) (script_of input))) ≤ most_frames)

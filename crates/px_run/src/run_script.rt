@@ -1,0 +1,79 @@
+// `run`.
+ghost use Rattle.std.specs.Prelude.{◌≡◌, ◌≤◌, ℕ, List, None, Some};
+ghost use Rattle.px_site.specs.Cause.{NoneFell};
+ghost use Rattle.px_site.specs.State.{EachMoment};
+ghost use Rattle.px_restart.specs.declared.restart.Restart.{Restart};
+ghost use Rattle.px_xlog.specs.declared.change.Change.{Change};
+ghost use Rattle.px_xlog.specs.Images.{IsSettledStore};
+ghost use Rattle.px_stored.specs.Stored.{Stored};
+ghost use Rattle.px_recovery.specs.Opening.{opened_machine, report_of};
+ghost use Rattle.px_play.specs.Acknowledged.{KeepsAcknowledged};
+ghost use Rattle.px_play.specs.Causes.{HasPlayCause};
+ghost use Rattle.px_play.specs.Input.{EndsInput, script_of};
+ghost use Rattle.px_run.specs.Causes.{HasStatusCause, ReadsNothing, RefusesBad, ShowsRefusal};
+ghost use Rattle.px_run.specs.Running.{machine_after};
+ghost use Rattle.px_run.specs.Working.{RefusesQuietly, RunsScript};
+ghost use Rattle.px_run.specs.declared.command.Command.{Command};
+
+use crate::ended::Ended;
+use crate::statuses::status_of_opening;
+use crate::telling::tell;
+use px_calls::{Status, opened_line};
+use px_play::play;
+use px_recovery::{Opened, open_store};
+use px_site::Site;
+use px_source::Source;
+use std::alloc::Global;
+
+/// Opens the store, tells what was found, and plays the script of the input.
+pub(crate) fn run_script<W: Site, S: Source>(alloc: Global, source: &mut S, site: W) -> Ended<W>
+    ensures cause { HasStatusCause (Some Command.Run) (W.counts site) (W.counts result.site) (S.faults source.old) (S.faults source.new) result.status }
+    ensures shown { W.tells → ShowsRefusal (W.state site).content (W.state result.site).content result.status }
+    ensures refused { W.tells → RefusesBad (W.state site).content result.status }
+    ensures quiet { W.tells → RefusesQuietly (W.state site) (W.state result.site) result.status }
+    ensures input { S.tells → EndsInput (S.left source.old) (S.left source.new) result.status }
+    ensures unopened { S.tells → ReadsNothing (S.left source.old) (S.left source.new) result.status }
+    ensures runs { W.tells → S.tells → (restart : Restart) (changes : List Change) → IsSettledStore restart changes (W.state site)
+        → RunsScript restart changes (S.left source.old) (S.left source.new) (W.state site) (W.state result.site) result.status }
+    ensures moments { W.tells → S.tells → (restart : Restart) (changes : List Change) → IsSettledStore restart changes (W.state site)
+        → EachMoment (KeepsAcknowledged (machine_after restart changes (script_of (S.left source.old))) (W.state site).now.told) (W.state site) (W.state result.site) }
+    ensures none_fell { NoneFell (W.counts site) (W.counts result.site) }
+    ensures source_none_fell { S.faults source.old ≤ S.faults source.new }
+{
+    match open_store(alloc, site) {
+        Ok(opened) => {
+            let mut opened = opened;
+            let status = play_opened(alloc, &mut opened, source);
+            let site = opened.core.close();
+            Ended { site, status }
+        }
+        Err(refused) => Ended {
+            site: refused.site,
+            status: status_of_opening(refused.error),
+        },
+    }
+}
+
+/// Tells what an opening found, and plays the script.
+fn play_opened<W: Site, S: Source>(alloc: Global, opened: &mut Opened<W>, source: &mut S) -> Status
+    requires { opened.old.core.error ≡ None }
+    ensures cause { HasPlayCause (W.counts opened.old.core.site) (W.counts opened.new.core.site) (S.faults source.old) (S.faults source.new) result }
+    ensures input { S.tells → EndsInput (S.left source.old) (S.left source.new) result }
+    ensures runs { W.tells → S.tells → (restart : Restart) (changes : List Change)
+        → Stored restart changes opened.old.core.log opened.old.core.machine (W.state opened.old.core.site)
+        → opened.old.core.machine ≡ opened_machine restart changes → opened.old.report ≡ report_of restart changes
+        → RunsScript restart changes (S.left source.old) (S.left source.new) (W.state opened.old.core.site) (W.state opened.new.core.site) result }
+    ensures moments { W.tells → S.tells → (restart : Restart) (changes : List Change)
+        → Stored restart changes opened.old.core.log opened.old.core.machine (W.state opened.old.core.site)
+        → opened.old.core.machine ≡ opened_machine restart changes → opened.old.report ≡ report_of restart changes
+        → EachMoment (KeepsAcknowledged (machine_after restart changes (script_of (S.left source.old))) (W.state opened.old.core.site).now.told) (W.state opened.old.core.site) (W.state opened.new.core.site) }
+    ensures none_fell { NoneFell (W.counts opened.old.core.site) (W.counts opened.new.core.site) }
+    ensures source_none_fell { S.faults source.old ≤ S.faults source.new }
+{
+    let report = opened.report;
+    let line = opened_line(report.commits, report.rows, report.redone);
+    if let Err(status) = tell(&mut opened.core, line.as_slice()) {
+        return status;
+    }
+    play(alloc, &mut opened.core, source)
+}
