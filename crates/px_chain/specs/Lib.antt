@@ -1,0 +1,5 @@
+pub mod Cells
+pub mod Links
+pub mod Sound
+pub mod Table
+pub mod Visible

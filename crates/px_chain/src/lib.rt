@@ -1,0 +1,32 @@
+//! The chains of a table's variations: what makes cells sound, and the cells that link and unlink variations.
+//!
+//! A row pointer heads the chain of a row's variations, the newest first; the slots and row pointers that are in no chain stand on
+//! free lists. `link` and `unlink` compute the few cells that a change of the log carries. They see only what they are given, so
+//! that cells stay sound is a law of its own.
+//!
+//! - `chain`: `Chain`, a chain as it was read.
+//! - `linking`, `unlinking`: `link` and `unlink`; `cut` has the chain in three parts, `cells` the cells' bytes.
+//! - `views`: `visible`, the variation that a reader sees.
+//! - `laws`: cells of a link or an unlink, over sound cells, are sound; what sound cells are has one layout.
+//!
+//! `specs/Sound` says what sound cells are, `specs/Links` what a link and an unlink change, `specs/Table` what cells over a table
+//! are.
+#![tactic(auto)]
+
+mod cells;
+mod chain;
+mod cut;
+mod laws;
+mod linking;
+mod unlinking;
+mod views;
+
+pub use chain::{Chain, Linked};
+pub use laws::{
+    a_new_row_is_sound, a_new_variation_is_sound, a_place_stands_once,
+    cells_with_the_same_links_are_sound, no_cells_are_sound, slots_that_stay_hold_the_same,
+    sound_cells_have_one_layout, unlinked_cells_are_in_order, unlinked_cells_are_sound,
+};
+pub use linking::link;
+pub use unlinking::unlink;
+pub use views::{SlotView, visible};

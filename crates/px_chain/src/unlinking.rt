@@ -1,0 +1,156 @@
+ghost use Rattle.std.specs.Prelude.{◌≡◌, ◌+◌, ◌≤◌, ◌++◌, All, IfOk, IsTrue, OnOk, length, map, nat_le};
+ghost use Rattle.std.specs.List.{position_or_len};
+ghost use Rattle.px_cells.specs.Form.{is_short, is_slot};
+ghost use Rattle.px_chain.specs.declared.chain.Linked.{Linked};
+ghost use Rattle.px_chain.specs.Cells.{cell_of};
+ghost use Rattle.px_chain.specs.Links.{IsStored, content_of, freed_slot, parts_of, placed, relinked, unlink_cells, unlinked_pointer, unlinked_slots};
+
+use crate::cells::{header_cell, pointer_cell, slot_cell};
+use crate::chain::{Chain, Linked};
+use crate::cut::{Cut, number_or};
+use px_cells::{CellList, Header, Pointer, Slot, SlotState};
+use px_model::Bytes;
+use std::alloc::{AllocError, Global};
+
+/// The cells that unlink `count` variations of a chain, from place `from` on, where 0 is the newest: the header's, those of the
+/// slots that change, in order of their numbers, and that of the row pointer where no slot stays in front of those that go.
+///
+/// The slots that go are given back one after the other, the oldest first, so the newest of them is in front of the free
+/// list. What was in front of them, a slot or the row pointer, then leads to what is behind them. Where no slot stays, the row
+/// pointer is given back too. Of sound cells it leaves sound ones (`unlinked_cells_are_sound`). It fails only for want of
+/// memory.
+pub fn unlink(
+    alloc: Global,
+    table: u8,
+    header: &Header,
+    chain: &Chain,
+    from: u32,
+    count: u32,
+    short: u32,
+) -> Result<CellList, AllocError>
+    requires short { IsTrue (is_short short) }
+    requires some { 1 ≤ count }
+    requires within { from + count ≤ length chain.now }
+    requires stored { All (λ linked. IsStored short linked.slot) chain.now }
+    ensures { IfOk result (λ cells. cells ≡ map (cell_of table short) (unlink_cells header.now (parts_of chain.now from count))) }
+{
+    let cut = Cut::new(chain.as_slice(), from as usize, count as usize);
+    let slots = unlinked_slots(alloc, header, &cut)?;
+    let mut cells = CellList::new(alloc);
+    cells.push(header_cell(alloc, table, &cut.header(*header))?)?;
+    push_slots(&mut cells, alloc, table, slots.as_slice(), short)?;
+    push_pointer(&mut cells, alloc, table, header, &cut, short)?;
+    Ok(cells)
+}
+
+/// The slots that change, in order of their numbers.
+fn unlinked_slots(alloc: Global, header: &Header, cut: &Cut<'_>) -> Result<Vec<Linked>, AllocError>
+    ensures { IfOk result (λ slots. slots.items ≡ unlinked_slots header.now cut.now) }
+{
+    let mut slots = relinked(alloc, cut.before, number_or(cut.behind, 0))?;
+    for (i, linked) in cut.gone.iter().enumerate() {
+        let next = number_or(&cut.gone[i + 1..], header.free_slot);
+        place(&mut slots, freed(alloc, linked, next)?)?;
+    }
+    Ok(slots)
+}
+
+/// The last of the slots, with another `next`; none of none.
+#[tactic(auto, using(crate::proofs::Lasts::relinked_some))]
+fn relinked(alloc: Global, slots: &[Linked], next: u32) -> Result<Vec<Linked>, AllocError>
+    ensures { IfOk result (λ last. last.items ≡ relinked slots.now next) }
+{
+    let Some(last) = slots.last() else {
+        return Ok(Vec::new(alloc));
+    };
+    let mut slot = last.slot.copy()?;
+    slot.next = next;
+    let mut relinked = Vec::new(alloc);
+    relinked.push(Linked {
+        number: last.number,
+        slot,
+    })?;
+    Ok(relinked)
+}
+
+/// The slot as it is on the free list.
+fn freed(alloc: Global, linked: &Linked, next: u32) -> Result<Linked, AllocError>
+    ensures { IfOk result (λ freed. freed ≡ record { number = linked.now.number; slot = freed_slot linked.now.slot next }) }
+{
+    Ok(Linked {
+        number: linked.number,
+        slot: Slot {
+            state: SlotState::Free,
+            xn: 0,
+            next,
+            row: 0,
+            tag: linked.slot.tag,
+            total: 0,
+            log: 0,
+            place: 0,
+            key: linked.slot.key.copy()?,
+            short: Bytes::new(alloc),
+        },
+    })
+}
+
+/// Puts a slot among those in order of their numbers.
+fn place(slots: &mut Vec<Linked>, linked: Linked) -> Result<(), AllocError>
+    ensures { OnOk result (slots.new.items ≡ placed slots.old.items linked) }
+{
+    let at = place_of(slots.as_slice(), linked.number);
+    slots.insert(at, linked)?;
+    Ok(())
+}
+
+/// The index of the first slot whose number isn't below this one.
+fn place_of(slots: &[Linked], number: u32) -> usize
+    ensures within { result ≤ length slots.now }
+    ensures first { result ≡ position_or_len (λ other. nat_le number other.number) slots.now }
+{
+    for (i, other) in slots.iter().enumerate() {
+        if number <= other.number {
+            return i;
+        }
+    }
+    slots.len()
+}
+
+/// Appends the cells of these slots.
+fn push_slots(
+    cells: &mut CellList,
+    alloc: Global,
+    table: u8,
+    slots: &[Linked],
+    short: u32,
+) -> Result<(), AllocError>
+    requires short { IsTrue (is_short short) }
+    requires form { All (λ linked. IsTrue (is_slot short linked.slot)) slots.now }
+    ensures { OnOk result (cells.new ≡ cells.old ++ map (cell_of table short) (map content_of slots.now)) }
+{
+    for linked in slots {
+        cells.push(slot_cell(alloc, table, linked.number, &linked.slot, short)?)?;
+    }
+    Ok(())
+}
+
+/// Appends the cell of the row pointer, where no slot stays in front of those that go.
+fn push_pointer(
+    cells: &mut CellList,
+    alloc: Global,
+    table: u8,
+    header: &Header,
+    cut: &Cut<'_>,
+    short: u32,
+) -> Result<(), AllocError>
+    ensures { OnOk result (cells.new ≡ cells.old ++ map (cell_of table short) (unlinked_pointer header.now cut.now)) }
+{
+    if !cut.before.is_empty() {
+        return Ok(());
+    }
+    let pointer = Pointer {
+        used: !cut.is_emptied(),
+        head: number_or(cut.behind, header.free_row),
+    };
+    cells.push(pointer_cell(alloc, table, cut.row(), &pointer)?)
+}

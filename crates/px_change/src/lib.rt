@@ -1,0 +1,34 @@
+//! What a frame of the transaction log says: a change, which is the new bytes of a few cells, or how a transaction ended.
+//!
+//! - `change`: `Change` and its kinds.
+//! - `codes`: the bytes that stand for kinds.
+//! - `grammar`: which changes a store may have, as a test that runs.
+//! - `read`: `decode`, a change of its bytes.
+//! - `write`: `encode`, the bytes of a change, and `end_bytes`, those of an end, which take no memory.
+//! - `stand`: `may_stand`, whether a frame of a store may hold a change of the grammar.
+//! - `laws`: written is read, one reading, sizes, and small examples.
+//!
+//! `specs/Text` has the one text of a change, `specs/Grammar` the grammar and `may_hold`, and `specs/Reading` says which
+//! change bytes hold. What the bytes of a cell say isn't looked at here, only how many they are. The format is in
+//! docs/FORMATS.md, 'Change'.
+#![tactic(auto)]
+
+mod change;
+mod codes;
+mod grammar;
+mod laws;
+mod limits;
+mod read;
+mod stand;
+mod write;
+
+pub use change::{Change, ChangeKind};
+pub use grammar::is_in_grammar;
+pub use laws::{
+    fits_a_frame, one_reading, read_is_written, size_of_a_put, text_of_a_commit,
+    what_a_frame_may_hold, what_a_store_may_have, written_is_read,
+};
+pub use limits::{END_SIZE, LONGEST_TEXT, MOST_CELLS};
+pub use read::decode;
+pub use stand::may_stand;
+pub use write::{encode, end_bytes, text_size};

@@ -1,0 +1,5 @@
+//! Tests of the payloads of frames against bytes that were written by hand.
+#![tactic(auto)]
+
+#[cfg(test)]
+mod changes;

@@ -1,0 +1,4 @@
+pub mod Appends
+pub mod Slots
+pub mod Texts
+pub mod Zeros
