@@ -1,6 +1,32 @@
--- The transactions that are open were begun: their numbers were given out.
-use Rattle.std.specs.Prelude.{◌≡◌, ◌≤◌, ℕ, List, Option, Some, None, slice_index_or}
+-- The transactions that are open were begun: their numbers were given out, each once.
+use Rattle.std.specs.Prelude.{◌≡◌, ◌<◌, ◌≤◌, ℕ, ◌+◌, ◌-◌, ◌^◌, Bool, false, ◌==◌, List, Option, Some, None, if◌then◌else◌, count_by, is_some, length, slice_index_or, slice_set}
+use Rattle.px_model.specs.declared.limits.TheConstants.{SESSIONS}
+use Rattle.px_model.specs.declared.machine.Ended.{Ended}
 use Rattle.px_model.specs.declared.machine.Open.{Open}
+use Rattle.px_model.specs.Machine.{Machine}
+use Rattle.px_calls.specs.Steps.{open_of}
 
 pub record WereBegun (begun : ℕ) (active : List (Option Open)) : Type 0 where
+  pub from_one : (session : ℕ) (xact : Open) → slice_index_or active session None ≡ Some xact → 0 < xact.number
   pub given : (session : ℕ) (xact : Open) → slice_index_or active session None ≡ Some xact → xact.number ≤ begun
+  pub apart : (one other : ℕ) (x y : Open) → slice_index_or active one None ≡ Some x → slice_index_or active other None ≡ Some y
+      → x.number ≡ y.number → one ≡ other
+
+-- What holds of a plain program's parts: there is a place for each session, the stored numbers are below 2^62, there is
+-- room among the ended transactions for each open one, and the committed ones are counted.
+abbrev pub AreKept : (begun base before committed : ℕ) → (ended : List Ended) → (capacity : ℕ) → (active : List (Option Open)) → Type 0
+AreKept begun base before committed ended capacity active =
+    (length active ≡ SESSIONS) × (begun < 2 ^ 32) × (WereBegun begun active) × (base + begun < 2 ^ 62) × (before < 2 ^ 62)
+    × (length ended + count_by is_some active ≤ capacity) × (committed ≡ count_by (λ e. e.committed) ended)
+
+-- the session's transaction is the one that began last
+abbrev pub has_number : ℕ → Option Open → Bool
+has_number number None = false
+has_number number (Some xact) = xact.number == number
+
+-- a machine whose last begin was taken back, where it was the session's
+abbrev pub without_begin : Machine → ℕ → Machine
+without_begin m session =
+    if has_number m.begun (open_of m session)
+    then record m { begun = m.begun - 1; active = slice_set m.active session None }
+    else m

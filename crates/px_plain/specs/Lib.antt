@@ -1,4 +1,5 @@
 pub mod Begun
 pub mod Runs
+pub mod Seen
 pub mod Unwriting
 pub mod Writers

@@ -1,10 +1,10 @@
 //! The plain program: the store's machine, computed over lists just as it is defined.
 //!
-//! It is slow on purpose. The contract of each call is the definition of that call, so it shows that
-//! the definitions can be met, it is the first body of the engine's core, and later bodies are compared
-//! with it. `Plain` has the calls of a session and what its transaction has written last, the sweeper's
-//! step, the counts of a store, and runs over whole lists of calls and steps. `laws` says what holds of
-//! every such run.
+//! It is slow on purpose: it keeps no index, so a call searches the lists from their ends. The contract of
+//! each call is the definition of that call, so it shows that the definitions can be met, and later bodies
+//! are compared with it and built over it. `Plain` has the calls of a session and their parts, which a crate
+//! with an index of its own calls, the sweeper's step, the counts of a store, and runs over whole lists of
+//! calls and steps. `laws` says what holds of every such run.
 #![tactic(auto)]
 
 mod laws;
@@ -16,6 +16,6 @@ mod steps;
 pub use laws::{
     a_transaction_has_so_many_writes, the_first_committer_wins, the_sweeper_changes_no_reply,
 };
-pub use plain::Plain;
-pub use rows::apply_write;
+pub use plain::{Plain, fits_key};
+pub use rows::{apply_write, last_write};
 pub use steps::Step;

@@ -2,6 +2,7 @@ ghost use Rattle.std.specs.Prelude.{◌≡◌, ◌<◌, ◌^◌, IfOk};
 ghost use Rattle.std.specs.Bool.{OnTrue};
 ghost use Rattle.std.specs.Option.{option_copied};
 ghost use Rattle.px_model.specs.Machine.{fresh, view};
+ghost use Rattle.px_model.specs.Rows.{row_at};
 ghost use Rattle.px_calls.specs.Steps.{open_of, has_table, fits_key};
 
 mod beginning;
@@ -14,7 +15,9 @@ mod sweeping;
 mod writers;
 mod writing;
 
-use crate::rows::{apply, apply_committed, copy_rows};
+use crate::rows::{
+    apply, apply_committed, copy_rows, find_row, last_committed_write, last_write, row_of,
+};
 use crate::slices::first_items;
 use px_model::{Ended, LONGEST_KEY, Open, Row, RowList, SESSIONS, Session};
 use std::alloc::{AllocError, Global};
@@ -36,6 +39,8 @@ pub struct Plain {
     base: u64,
     /// The transactions that ended with writes, in the order in which they ended.
     ended: Vec<Ended>,
+    /// How many of them committed.
+    committed: u64,
     /// For each session its open transaction.
     active: Vec<Option<Open>>,
     /// How many transactions have begun, and how many writes the sweeper has passed.
@@ -44,17 +49,15 @@ pub struct Plain {
 }
 
 impl Model for Plain {
-    ghost use Rattle.std.specs.Prelude.{◌≡◌, ◌+◌, ◌<◌, ◌≤◌, ◌^◌, length, count_by, is_some, vec_len};
     ghost use Rattle.std.specs.Vec.{vec_capacity};
-    ghost use Rattle.px_model.specs.declared.limits.TheConstants.{SESSIONS};
     ghost use Rattle.px_model.specs.Machine.{Machine};
-    ghost use Rattle.px_plain.specs.Begun.{WereBegun};
+    ghost use Rattle.px_plain.specs.Begun.{AreKept};
 
     ghost Value = { Machine };
 
     ghost view = { λ a. record { tables = a.tables; short = a.short; opening = a.opening.items; before = a.before; base = a.base; ended = a.ended.items; active = a.active.items; begun = a.begun; swept = a.swept } };
 
-    ghost invariant = { λ a. (length a.active.items ≡ SESSIONS) × (a.begun < 2 ^ 32) × (WereBegun a.begun a.active.items) × (a.base + a.begun < 2 ^ 62) × (a.before < 2 ^ 62) × (vec_len a.ended + count_by is_some a.active.items ≤ vec_capacity a.ended) };
+    ghost invariant = { λ a. AreKept a.begun a.base a.before a.committed a.ended.items (vec_capacity a.ended) a.active.items };
 }
 
 impl Plain {
@@ -84,6 +87,7 @@ impl Plain {
             before,
             base,
             ended: Vec::new(alloc),
+            committed: 0,
             active,
             begun: 0,
             swept: 0,
@@ -95,7 +99,7 @@ impl Plain {
     }
 
     /// The session's open transaction.
-    fn open_of(&self, session: Session) -> Option<&Open>
+    pub fn open_of(&self, session: Session) -> Option<&Open>
         ensures { option_copied result ≡ open_of self.now session }
     {
         self.active[session.index() as usize].as_ref()
@@ -112,8 +116,25 @@ impl Plain {
         Ok(rows)
     }
 
+    /// The row of the key that the transaction sees: what its own last write of the key left, else the last committed
+    /// one before its snapshot, else the opening's row. It looks from the newest back and copies nothing.
+    #[tactic(auto, using(crate::proofs::Seen::seen))]
+    fn row_seen<'a>(&'a self, transaction: &'a Open, table: u8, key: &[u8]) -> Option<&'a Row>
+        ensures { option_copied result ≡ row_at (table, key.now) (view self.now transaction.now) }
+    {
+        if let Some(write) = last_write(transaction.writes.as_slice(), table, key) {
+            return row_of(write);
+        }
+        let before = first_items(&self.ended, transaction.snap);
+        if let Some(write) = last_committed_write(before, table, key) {
+            return row_of(write);
+        }
+        find_row(&self.opening, table, key)
+    }
+
+    /// Tells whether there is a table of that number; they go from 1 to how many there are.
     #[tactic(auto, unfolding(px_calls::specs::Steps::has_table))]
-    fn has_table(&self, table: u32) -> bool
+    pub fn has_table(&self, table: u32) -> bool
         ensures is { result ≡ has_table self.now table }
         ensures fits { OnTrue result (table < 256) }
     {
@@ -121,8 +142,9 @@ impl Plain {
     }
 }
 
+/// Tells whether the key has 1 to 64 bytes.
 #[tactic(auto, unfolding(px_calls::specs::Steps::fits_key))]
-fn fits_key(key: &[u8]) -> bool
+pub fn fits_key(key: &[u8]) -> bool
     ensures { result ≡ fits_key key.now }
 {
     1 <= key.len() && key.len() <= LONGEST_KEY

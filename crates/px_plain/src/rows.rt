@@ -1,10 +1,12 @@
 //! Rows in order of their keys, and what writes make of them.
 
-ghost use Rattle.std.specs.Prelude.{◌≡◌, IfOk, OnOk, take, filter, flat_map};
+ghost use Rattle.std.specs.Prelude.{◌≡◌, IfOk, OnOk, None, if◌then◌else◌, take, filter, flat_map};
 ghost use Rattle.std.specs.Option.{option_copied};
 ghost use Rattle.px_calls.specs.Steps.{rows_of_table, rows_with_tag};
 ghost use Rattle.px_model.specs.Machine.{committed_writes, committed_flat};
-ghost use Rattle.px_model.specs.Rows.{key_cmp, same_key, key_of, row_at, with_row, without_key, after_write, after, has_write_of};
+ghost use Rattle.px_model.specs.Rows.{key_cmp, same_key, key_of, key_written, row_at, with_row, without_key, after_write, after, has_write_of};
+ghost use Rattle.px_model_laws.specs.Keys.{row_written};
+ghost use Rattle.px_plain.specs.Seen.{last_of_key, last_committed_of};
 
 use px_model::{Ended, Flat, Row, Write};
 use std::alloc::{AllocError, Global};
@@ -147,18 +149,74 @@ pub(crate) fn has_write(writes: &[Write], table: u8, key: &[u8]) -> bool
     ensures { result ≡ has_write_of (table, key.now) writes.now }
 {
     for write in writes {
-        let same = match write {
-            Write::Put(row) => is_same(table, key, row.table, row.key.as_slice()),
-            Write::Delete {
-                table: other_table,
-                key: other_key,
-            } => is_same(table, key, *other_table, other_key.as_slice()),
-        };
-        if same {
+        if is_of(write, table, key) {
             return true;
         }
     }
     false
+}
+
+/// The last of these writes that is of the key. It looks from the newest back.
+pub fn last_write<'a>(writes: &'a [Write], table: u8, key: &[u8]) -> Option<&'a Write>
+    ensures { option_copied result ≡ last_of_key (table, key.now) writes.now }
+{
+    for i in (0..writes.len()).rev() {
+        let write = &writes[i];
+        if is_of(write, table, key) {
+            return Some(write);
+        }
+    }
+    None
+}
+
+/// The last write of the key that a committed transaction made. It looks from the newest back.
+pub(crate) fn last_committed_write<'a>(
+    ended: &'a [Ended],
+    table: u8,
+    key: &[u8],
+) -> Option<&'a Write>
+    ensures { option_copied result ≡ last_committed_of (table, key.now) ended.now }
+{
+    for i in (0..ended.len()).rev() {
+        if let Some(write) = committed_write(&ended[i], table, key) {
+            return Some(write);
+        }
+    }
+    None
+}
+
+/// The entry's last write of the key, where it committed.
+fn committed_write<'a>(entry: &'a Ended, table: u8, key: &[u8]) -> Option<&'a Write>
+    ensures { option_copied result ≡ (if entry.now.committed then last_of_key (table, key.now) entry.now.writes else None) }
+{
+    if entry.committed {
+        last_write(entry.writes.as_slice(), table, key)
+    } else {
+        None
+    }
+}
+
+/// The row that the write leaves at its key.
+pub(crate) fn row_of(write: &Write) -> Option<&Row>
+    ensures { option_copied result ≡ row_written write.now }
+{
+    match write {
+        Write::Put(row) => Some(row),
+        Write::Delete { .. } => None,
+    }
+}
+
+/// Tells whether the write is of the key.
+fn is_of(write: &Write, table: u8, key: &[u8]) -> bool
+    ensures { result ≡ same_key (table, key.now) (key_written write.now) }
+{
+    match write {
+        Write::Put(row) => is_same(table, key, row.table, row.key.as_slice()),
+        Write::Delete {
+            table: other_table,
+            key: other_key,
+        } => is_same(table, key, *other_table, other_key.as_slice()),
+    }
 }
 
 /// By table, and then by the key's bytes.

@@ -1,5 +1,7 @@
-ghost use Rattle.std.specs.Prelude.{◌≡◌, IfOk, OnOk, OnErr};
-ghost use Rattle.px_calls.specs.Steps.{reply_of, state_after};
+ghost use Rattle.std.specs.Prelude.{◌≡◌, ◌<◌, false, None, length, IfOk, OnOk, OnErr};
+ghost use Rattle.px_model.specs.Machine.{Machine};
+ghost use Rattle.px_calls.specs.Steps.{is_refusal, open_of, reply_of, state_after};
+ghost use Rattle.px_plain.specs.Begun.{has_number, without_begin};
 
 use super::Plain;
 use px_calls::{Call, Reply};
@@ -8,7 +10,7 @@ use std::alloc::AllocError;
 
 impl Plain {
     /// Opens a transaction of the session. Its snapshot is what has ended by now.
-    #[tactic(auto, using(crate::proofs::Room::room, crate::proofs::Begun::were_begun), unfolding(px_calls::specs::Steps::begins_spent, px_calls::specs::Steps::reply_of, px_calls::specs::Steps::state_when_done, px_calls::specs::Steps::state_after))]
+    #[tactic(auto, unfolding(px_calls::specs::Steps::begins_spent, px_calls::specs::Steps::reply_of, px_calls::specs::Steps::state_when_done, px_calls::specs::Steps::state_after))]
     pub fn begin(&mut self, session: Session) -> Result<Reply, AllocError>
         ensures reply { IfOk result (λ reply. reply ≡ reply_of self.old session Call.Begin) }
         ensures state { OnOk result (self.new ≡ state_after self.old session Call.Begin) }
@@ -32,5 +34,35 @@ impl Plain {
             kept: RowList::new(alloc),
         });
         Ok(Reply::Began(number))
+    }
+
+    /// Takes back the session's begin, where it was the last one and nothing was called since, as where something else
+    /// refused it. It takes no memory.
+    pub fn unbegin(&mut self, session: Session)
+        ensures takes_back { (before : Machine) → open_of before session ≡ None → is_refusal (reply_of before session Call.Begin) ≡ false
+            → self.old ≡ state_after before session Call.Begin → self.new ≡ before }
+    {
+        self.drop_begin(session);
+    }
+
+    fn drop_begin(&mut self, session: Session)
+        ensures is { self.new ≡ without_begin self.old session }
+        ensures has_place { session < length self.old.active }
+    {
+        let at = session.index() as usize;
+        if !has_number(&self.active[at], self.begun) {
+            return;
+        }
+        self.active[at] = None;
+        self.begun -= 1;
+    }
+}
+
+fn has_number(slot: &Option<Open>, number: u64) -> bool
+    ensures { result ≡ has_number number slot.now }
+{
+    match slot {
+        Some(transaction) => transaction.number == number,
+        None => false,
     }
 }

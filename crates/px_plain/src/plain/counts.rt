@@ -1,4 +1,4 @@
-ghost use Rattle.std.specs.Prelude.{◌≡◌, ◌-◌, ◌+◌, ◌<◌, ◌^◌, ◌++◌, IfOk, OnOk, map};
+ghost use Rattle.std.specs.Prelude.{◌≡◌, ◌-◌, ◌+◌, ◌<◌, ◌^◌, ◌++◌, IfOk, OnOk, length, map};
 ghost use Rattle.px_model.specs.Chains.{base_rows, unswept_writes, open_writes, all_variations, variations, unswept, live, long_size};
 ghost use Rattle.px_model.specs.Machine.{commits, opens, published};
 
@@ -13,12 +13,19 @@ const PART_HEAD: u64 = 16;
 
 impl Plain {
     /// The commits since the store was made.
-    #[tactic(auto, unfolding(px_model::specs::Machine::commits))]
+    #[tactic(auto, using(crate::proofs::Room::room), unfolding(px_model::specs::Machine::commits))]
     pub fn commits(&self) -> u64
         ensures is { result ≡ commits self.now }
         ensures below { result < 2 ^ 64 - 1 }
     {
-        self.before + self.ended.iter().filter(|entry| entry.committed).count() as u64
+        self.before + self.committed
+    }
+
+    /// The transactions that ended with writes since the opening.
+    pub fn ends(&self) -> u64
+        ensures { result ≡ length self.now.ended }
+    {
+        self.ended.len() as u64
     }
 
     /// The transactions that are open.

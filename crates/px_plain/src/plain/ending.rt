@@ -42,7 +42,7 @@ impl Plain {
     }
 
     /// Takes the session's transaction out, and enters it among the ended ones where it has writes.
-    #[tactic(auto, using(crate::proofs::Room::room, crate::proofs::Begun::were_begun))]
+    #[tactic(auto, using(crate::proofs::Room::room))]
     fn close(&mut self, session: Session, committed: bool)
         ensures { self.new ≡ closed self.old session committed }
     {
@@ -65,6 +65,7 @@ impl Plain {
             writes,
         };
         push_in_room(&mut self.ended, entry);
+        self.committed += u64::from(committed);
     }
 }
 

@@ -2,7 +2,7 @@ ghost use Rattle.std.specs.Prelude.{◌≡◌, IfOk, OnOk, OnErr, Some, option_m
 ghost use Rattle.px_calls.specs.Steps.{open_of, plus_kept, with_slot, reply_of, state_after};
 
 use super::{Plain, fits_key};
-use crate::rows::{find_row, keep_table, keep_tag};
+use crate::rows::{keep_table, keep_tag};
 use px_calls::{Call, Reply};
 use px_model::{MOST_TICKETS, Row, RowList, Session};
 use std::alloc::AllocError;
@@ -22,8 +22,7 @@ impl Plain {
         if !fits_key(key) {
             return Ok(Reply::LimitKey);
         }
-        let rows = self.view(transaction)?;
-        match find_row(&rows, table as u8, key) {
+        match self.row_seen(transaction, table as u8, key) {
             Some(row) => Ok(Reply::RowIs(row.copy()?)),
             None => Ok(Reply::NoRow),
         }
@@ -49,8 +48,7 @@ impl Plain {
         if kept >= MOST_TICKETS {
             return Ok(Reply::LimitTickets);
         }
-        let rows = self.view(transaction)?;
-        let Some(row) = find_row(&rows, table as u8, key) else {
+        let Some(row) = self.row_seen(transaction, table as u8, key) else {
             return Ok(Reply::Missing);
         };
         let row = row.copy()?;
@@ -59,7 +57,6 @@ impl Plain {
     }
 
     /// Adds a row to those that the session's transaction keeps.
-    #[tactic(auto, using(crate::proofs::Room::room, crate::proofs::Begun::were_begun))]
     fn keep(&mut self, session: Session, row: Row) -> Result<(), AllocError>
         ensures ok { OnOk result (self.new ≡ with_slot self.old session (option_map (plus_kept (Some row)) (open_of self.old session))) }
         ensures err { OnErr result (self.new ≡ self.old) }

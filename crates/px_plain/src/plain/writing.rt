@@ -5,7 +5,6 @@ ghost use Rattle.px_calls.specs.Steps.{is_refusal, write_refusal, with_write, fi
 ghost use Rattle.px_plain.specs.Unwriting.{without_last};
 
 use super::{Plain, fits_key};
-use crate::rows::find_row;
 use px_calls::{Call, Reply};
 use px_model::{Bytes, MOST_VARIATIONS, MOST_WRITES, Open, Row, Session, Write, Writes};
 use std::alloc::{AllocError, Global};
@@ -33,14 +32,14 @@ impl Plain {
         if let Some(refusal) = self.write_refusal(session, transaction, table, key, fits) {
             return Ok(refusal);
         }
-        if find_row(&self.view(transaction)?, table as u8, key).is_some() {
+        if self.row_seen(transaction, table as u8, key).is_some() {
             return Ok(Reply::Duplicate);
         }
         if self.is_full(table as u8) {
             return Ok(Reply::TableFull(MOST_VARIATIONS));
         }
-        let row = row_of(self.allocator(), table as u8, key, tag, body)?;
-        self.add_write(session, Write::Put(row))?;
+        let row = new_row(self.allocator(), table as u8, key, tag, body)?;
+        self.write(session, Write::Put(row))?;
         Ok(Reply::Inserted)
     }
 
@@ -65,14 +64,14 @@ impl Plain {
         if let Some(refusal) = self.write_refusal(session, transaction, table, key, fits) {
             return Ok(refusal);
         }
-        if find_row(&self.view(transaction)?, table as u8, key).is_none() {
+        if self.row_seen(transaction, table as u8, key).is_none() {
             return Ok(Reply::Missing);
         }
         if self.is_full(table as u8) {
             return Ok(Reply::TableFull(MOST_VARIATIONS));
         }
-        let row = row_of(self.allocator(), table as u8, key, tag, body)?;
-        self.add_write(session, Write::Put(row))?;
+        let row = new_row(self.allocator(), table as u8, key, tag, body)?;
+        self.write(session, Write::Put(row))?;
         Ok(Reply::Updated)
     }
 
@@ -89,7 +88,7 @@ impl Plain {
         if let Some(refusal) = self.write_refusal(session, transaction, table, key, true) {
             return Ok(refusal);
         }
-        if find_row(&self.view(transaction)?, table as u8, key).is_none() {
+        if self.row_seen(transaction, table as u8, key).is_none() {
             return Ok(Reply::Missing);
         }
         if self.is_full(table as u8) {
@@ -99,8 +98,20 @@ impl Plain {
             table: table as u8,
             key: Bytes::from_slice(self.allocator(), key)?,
         };
-        self.add_write(session, write)?;
+        self.write(session, write)?;
         Ok(Reply::Deleted)
+    }
+
+    /// Adds a write to those of the session's open transaction, whatever it is of; without a transaction nothing
+    /// changes. It fails only for want of memory.
+    pub fn write(&mut self, session: Session, write: Write) -> Result<(), AllocError>
+        ensures ok { OnOk result (self.new ≡ with_write self.old session write) }
+        ensures err { OnErr result (self.new ≡ self.old) }
+    {
+        if let Some(transaction) = &mut self.active[session.index() as usize] {
+            transaction.writes.push(write)?;
+        }
+        Ok(())
     }
 
     /// Takes back the write that the session's transaction made last, as where its frame was refused. It takes no
@@ -111,7 +122,6 @@ impl Plain {
         self.drop_last_write(session);
     }
 
-    #[tactic(auto, using(crate::proofs::Begun::were_begun))]
     fn drop_last_write(&mut self, session: Session)
         ensures { self.new ≡ without_last self.old session }
     {
@@ -151,34 +161,24 @@ impl Plain {
         Some(Reply::Conflict(writer))
     }
 
+    /// Tells whether a write may have the body.
     #[tactic(auto, unfolding(px_calls::specs::Steps::fits_body, px_calls::specs::Steps::longest_body))]
-    fn fits_body(&self, body: &[u8]) -> bool
+    pub fn fits_body(&self, body: &[u8]) -> bool
         ensures { result ≡ fits_body self.now body.now }
     {
         body.len() as u64 <= self.short as u64
     }
 
+    /// Tells whether the table has room for no more variations.
     #[tactic(auto, unfolding(px_calls::specs::Steps::is_full))]
-    fn is_full(&self, _table: u8) -> bool
+    pub fn is_full(&self, _table: u8) -> bool
         ensures { result ≡ is_full self.now _table }
     {
         false
     }
-
-    /// Adds a write to the session's own.
-    #[tactic(auto, using(crate::proofs::Room::room, crate::proofs::Begun::were_begun))]
-    fn add_write(&mut self, session: Session, write: Write) -> Result<(), AllocError>
-        ensures ok { OnOk result (self.new ≡ with_write self.old session write) }
-        ensures err { OnErr result (self.new ≡ self.old) }
-    {
-        if let Some(transaction) = &mut self.active[session.index() as usize] {
-            transaction.writes.push(write)?;
-        }
-        Ok(())
-    }
 }
 
-fn row_of(alloc: Global, table: u8, key: &[u8], tag: u32, body: &[u8]) -> Result<Row, AllocError>
+fn new_row(alloc: Global, table: u8, key: &[u8], tag: u32, body: &[u8]) -> Result<Row, AllocError>
     ensures { IfOk result (λ row. row ≡ record { table = table; key = key.now; tag = tag; body = body.now }) }
 {
     Ok(Row {

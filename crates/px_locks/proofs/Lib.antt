@@ -1,0 +1,4 @@
+pub mod Holders
+pub mod Keys
+pub mod Listed
+pub mod Maps
