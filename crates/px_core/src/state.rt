@@ -12,7 +12,7 @@ mod logging;
 
 use crate::CoreError;
 use px_model::{KeyOf, Row, RowList};
-use px_plain::Plain;
+use px_sessions::Sessions;
 use px_site::{Site, SiteError};
 use px_xlog::Xlog;
 use std::cmp::Ordering;
@@ -27,7 +27,7 @@ use std::marker::Model;
 #[derive(Drop)]
 pub struct Core<W: Site> {
     site: W,
-    plain: Plain,
+    sessions: Sessions,
     log: Xlog,
     error: Option<SiteError>,
 }
@@ -39,22 +39,22 @@ impl<W: Site> Model for Core<W> {
 
     ghost Value = { Kept W };
 
-    ghost view = { λ c. record { site = c.site; machine = c.plain; log = c.log; error = c.error } };
+    ghost view = { λ c. record { site = c.site; machine = c.sessions; log = c.log; error = c.error } };
 
     // What the calls add to the log may stand there.
-    ghost invariant = { λ c. Fits c.plain c.log × (c.log.frames ≤ 2 ^ 48) };
+    ghost invariant = { λ c. Fits c.sessions c.log × (c.log.frames ≤ 2 ^ 48) };
 }
 
 impl<W: Site> Core<W> {
     /// The core of this machine, over a site that has this log.
-    pub fn new(site: W, machine: Plain, log: Xlog) -> Core<W>
+    pub fn new(site: W, machine: Sessions, log: Xlog) -> Core<W>
         requires fits { Fits machine log }
         requires numbered { log.frames ≤ 2 ^ 48 }
         ensures { result ≡ record { site = site; machine = machine; log = log; error = None } }
     {
         Core {
             site,
-            plain: machine,
+            sessions: machine,
             log,
             error: None,
         }
@@ -69,7 +69,7 @@ impl<W: Site> Core<W> {
         if let Some(error) = self.error {
             return Err(CoreError::Broken(error));
         }
-        Ok(self.plain.published(self.plain.commits())?)
+        Ok(self.sessions.published(self.sessions.commits())?)
     }
 
     /// The first row past a key, in order of table and key, among those that are committed now; the first of all after

@@ -18,8 +18,8 @@ use crate::OpenError;
 use crate::changes::{base_of, commits_of, rows_of};
 use crate::restarts::{read_restart, sync_restarts};
 use px_core::Core;
-use px_plain::Plain;
 use px_restart::Restart;
+use px_sessions::Sessions;
 use px_site::Site;
 use px_xlog::{Change, Xlog, open_log};
 use std::alloc::{AllocError, Global};
@@ -85,7 +85,7 @@ pub fn open_store<W: Site>(alloc: Global, site: W) -> Result<Opened<W>, NotOpene
 
 /// What is opened, without the site.
 struct Parts {
-    machine: Plain,
+    machine: Sessions,
     log: Xlog,
     report: OpenReport,
 }
@@ -159,7 +159,7 @@ fn parts_of(
         redone: (changes.len() as u64).saturating_sub(restart.redo),
     };
     let tables = restart.tables as u8;
-    let machine = Plain::new(alloc, tables, restart.short, rows, commits, base)?;
+    let machine = Sessions::new(alloc, tables, restart.short, rows, commits, base)?;
     Ok(Parts {
         machine,
         log,

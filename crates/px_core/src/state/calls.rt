@@ -53,7 +53,7 @@ impl<W: Site> Core<W> {
         ensures refused { IfErr result (Refuses W.tells W.state W.counts session call.now self.old self.new) }
         ensures none_fell { NoneFell (W.counts self.old.site) (W.counts self.new.site) }
     {
-        Ok(self.plain.step(session, call)?)
+        Ok(self.sessions.step(session, call)?)
     }
 
     // A write that isn't refused appends its frame. Where that fails it is taken back.
@@ -64,13 +64,13 @@ impl<W: Site> Core<W> {
         ensures refused { IfErr result (Refuses W.tells W.state W.counts session call.now self.old self.new) }
         ensures none_fell { NoneFell (W.counts self.old.site) (W.counts self.new.site) }
     {
-        let reply = self.plain.step(session, call)?;
+        let reply = self.sessions.step(session, call)?;
         if reply.is_refusal() {
             return Ok(reply);
         }
         let _tag = tag_of(call);
         if let Err(error) = self.append_last_write(session) {
-            self.plain.unwrite(session);
+            self.sessions.unwrite(session);
             return Err(error);
         }
         Ok(reply)
@@ -83,13 +83,13 @@ impl<W: Site> Core<W> {
         ensures refused { IfErr result (Refuses W.tells W.state W.counts session Call.Commit self.old self.new) }
         ensures none_fell { NoneFell (W.counts self.old.site) (W.counts self.new.site) }
     {
-        let Some(xn) = self.plain.stored_writer(session) else {
-            return Ok(self.plain.commit(session)?);
+        let Some(xn) = self.sessions.stored_writer(session) else {
+            return Ok(self.sessions.commit(session)?);
         };
-        let commit = self.plain.commits() + 1;
+        let commit = self.sessions.commits() + 1;
         self.append(&Change::Commit { xn, commit })?;
         self.flush()?;
-        Ok(self.plain.commit(session)?)
+        Ok(self.sessions.commit(session)?)
     }
 
     fn roll_back_writes(&mut self, session: Session) -> Result<Reply, CoreError>
@@ -98,11 +98,11 @@ impl<W: Site> Core<W> {
         ensures refused { IfErr result (Refuses W.tells W.state W.counts session Call.Rollback self.old self.new) }
         ensures none_fell { NoneFell (W.counts self.old.site) (W.counts self.new.site) }
     {
-        let Some(xn) = self.plain.stored_writer(session) else {
-            return Ok(self.plain.rollback(session)?);
+        let Some(xn) = self.sessions.stored_writer(session) else {
+            return Ok(self.sessions.rollback(session)?);
         };
         self.append(&Change::Rollback { xn })?;
-        Ok(self.plain.rollback(session)?)
+        Ok(self.sessions.rollback(session)?)
     }
 }
 

@@ -25,10 +25,10 @@ impl<W: Site> Core<W> {
         ensures machine { self.new.machine ≡ self.old.machine }
         ensures none_fell { NoneFell (W.counts self.old.site) (W.counts self.new.site) }
     {
-        let Some(xn) = self.plain.stored_writer(session) else {
+        let Some(xn) = self.sessions.stored_writer(session) else {
             return Ok(());
         };
-        let Some(write) = self.plain.last_write(session) else {
+        let Some(write) = self.sessions.last_write(session) else {
             return Ok(());
         };
         let write = write.copy()?;

@@ -14,13 +14,13 @@ use Rattle.px_core.proofs.state.Core.commit_writes.Goals as goal
 
 pub invariant_of-self-in_default : goal.invariant_of-self-in_default
 invariant_of-self-in_default g c =
-    let none : writer_of c.self.inside.plain c.args.session ≡ None = sym c.stored_writer.ensures ∙ c.in_default.is in
-    (fits_silent c.self.inside.plain c.commit.new.self c.self.inside.log c.args.session Commit c.self.invariant.0 (silent_commit c.self.inside.plain c.args.session none) c.commit.ensures.state, c.self.invariant.1)
+    let none : writer_of c.self.inside.sessions c.args.session ≡ None = sym c.stored_writer.ensures ∙ c.in_default.is in
+    (fits_silent c.self.inside.sessions c.commit.new.self c.self.inside.log c.args.session Commit c.self.invariant.0 (silent_commit c.self.inside.sessions c.args.session none) c.commit.ensures.state, c.self.invariant.1)
 
 pub returns-in_default-clause-answered : goal.returns-in_default-clause-answered
 returns-in_default-clause-answered g c =
-    let none : writer_of c.self.inside.plain c.args.session ≡ None = sym c.stored_writer.ensures ∙ c.in_default.is in
-    let inside : Kept g.row.W.Denot = record { site = c.self.inside.site; machine = c.self.inside.plain; log = c.self.inside.log; error = c.self.inside.error } in
+    let none : writer_of c.self.inside.sessions c.args.session ≡ None = sym c.stored_writer.ensures ∙ c.in_default.is in
+    let inside : Kept g.row.W.Denot = record { site = c.self.inside.site; machine = c.self.inside.sessions; log = c.self.inside.log; error = c.self.inside.error } in
     let new : Kept g.row.W.Denot = record inside { machine = c.commit.new.self } in
     subst (λ (k : Kept g.row.W.Denot). Answers g.W.Site.tells g.W.Site.state c.args.session Commit k new c.in_ok-commit.field-0) c.self.view_is
     (answers_silent g.W.Site.tells g.W.Site.state c.args.session Commit inside new c.in_ok-commit.field-0 (silent_commit inside.machine c.args.session none) c.in_ok-commit.ensures.reply
@@ -29,15 +29,15 @@ returns-in_default-clause-answered g c =
 pub append-requires : goal.append-requires
 append-requires g c =
     let change : Change = CommitChange c.in-Some.xn (c.commits-commit.result + 1) in
-    let adds = commit_adding c.self.inside.plain c.args.session c.in-Some.xn c.commits-commit.result (sym c.stored_writer.ensures ∙ c.in-Some.is) c.commits-commit.ensures.is in
+    let adds = commit_adding c.self.inside.sessions c.args.session c.in-Some.xn c.commits-commit.result (sym c.stored_writer.ensures ∙ c.in-Some.is) c.commits-commit.ensures.is in
     subst (λ (k : Kept g.row.W.Denot). may_hold k.log.tables k.log.frames change ≡ true) c.self.view_is
-    (added_may_stand c.self.inside.plain c.self.inside.log c.args.session Commit change c.self.invariant.0 c.self.invariant.1 (omega arith) adds)
+    (added_may_stand c.self.inside.sessions c.self.inside.log c.args.session Commit change c.self.invariant.0 c.self.invariant.1 (omega arith) adds)
 
 pub returns-in_err-append-clause-moments : goal.returns-in_err-append-clause-moments
 returns-in_err-append-clause-moments g c t =
-    let inside : Kept g.row.W.Denot = record { site = c.self.inside.site; machine = c.self.inside.plain; log = c.self.inside.log; error = c.self.inside.error } in
+    let inside : Kept g.row.W.Denot = record { site = c.self.inside.site; machine = c.self.inside.sessions; log = c.self.inside.log; error = c.self.inside.error } in
     let change : Change = CommitChange c.in-Some.xn (c.commits-commit.result + 1) in
-    let adds = commit_adding c.self.inside.plain c.args.session c.in-Some.xn c.commits-commit.result (sym c.stored_writer.ensures ∙ c.in-Some.is) c.commits-commit.ensures.is in
+    let adds = commit_adding c.self.inside.sessions c.args.session c.in-Some.xn c.commits-commit.result (sym c.stored_writer.ensures ∙ c.in-Some.is) c.commits-commit.ensures.is in
     commit_append_stands g.W.Site.tells g.W.Site.state c.args.session change c.args.self.now c.append.new.self
     (adds_one g.W.Site.tells g.W.Site.state c.args.session Commit change inside c.args.self.now c.args.self.now c.append.new.self c.self.view_is c.self.invariant.0 c.self.invariant.1 (omega arith) adds
     (ap (λ (k : Kept g.row.W.Denot). k.log) (sym c.self.view_is)) (ap (λ (k : Kept g.row.W.Denot). k.site) (sym c.self.view_is)) c.append.ensures.moments) t
@@ -45,7 +45,7 @@ returns-in_err-append-clause-moments g c t =
 pub returns-in_err-append-clause-refused : goal.returns-in_err-append-clause-refused
 returns-in_err-append-clause-refused g c =
     let change : Change = CommitChange c.in-Some.xn (c.commits-commit.result + 1) in
-    let adds = commit_adding c.self.inside.plain c.args.session c.in-Some.xn c.commits-commit.result (sym c.stored_writer.ensures ∙ c.in-Some.is) c.commits-commit.ensures.is in
+    let adds = commit_adding c.self.inside.sessions c.args.session c.in-Some.xn c.commits-commit.result (sym c.stored_writer.ensures ∙ c.in-Some.is) c.commits-commit.ensures.is in
     let refused = refuses_adding g.W.Site.tells g.W.Site.state g.W.Site.counts c.args.session Commit change c.args.self.now c.append.new.self c.in_err-append.field-0.0
     (subst (λ (k : Kept g.row.W.Denot). logged k.machine c.args.session Commit ≡ change ∷ []) c.self.view_is adds) (inl refl) c.in_err-append.ensures.refused in
     if_err c.from_residual-in_err-append.result _ _ c.from_residual-in_err-append.ensures.1
@@ -53,9 +53,9 @@ returns-in_err-append-clause-refused g c =
 
 pub returns-in_err-flush-clause-moments : goal.returns-in_err-flush-clause-moments
 returns-in_err-flush-clause-moments g c t =
-    let inside : Kept g.row.W.Denot = record { site = c.self.inside.site; machine = c.self.inside.plain; log = c.self.inside.log; error = c.self.inside.error } in
+    let inside : Kept g.row.W.Denot = record { site = c.self.inside.site; machine = c.self.inside.sessions; log = c.self.inside.log; error = c.self.inside.error } in
     let change : Change = CommitChange c.in-Some.xn (c.commits-commit.result + 1) in
-    let adds = commit_adding c.self.inside.plain c.args.session c.in-Some.xn c.commits-commit.result (sym c.stored_writer.ensures ∙ c.in-Some.is) c.commits-commit.ensures.is in
+    let adds = commit_adding c.self.inside.sessions c.args.session c.in-Some.xn c.commits-commit.result (sym c.stored_writer.ensures ∙ c.in-Some.is) c.commits-commit.ensures.is in
     commit_flush_stands g.W.Site.tells g.W.Site.state c.args.session change c.args.self.now c.append.new.self c.flush.new.self
     (adds_one g.W.Site.tells g.W.Site.state c.args.session Commit change inside c.args.self.now c.args.self.now c.append.new.self c.self.view_is c.self.invariant.0 c.self.invariant.1 (omega arith) adds
     (ap (λ (k : Kept g.row.W.Denot). k.log) (sym c.self.view_is)) (ap (λ (k : Kept g.row.W.Denot). k.site) (sym c.self.view_is)) c.append.ensures.moments)
@@ -63,8 +63,8 @@ returns-in_err-flush-clause-moments g c t =
 
 pub invariant_of-self-2 : goal.invariant_of-self-2
 invariant_of-self-2 g c =
-    let inside : Kept g.row.W.Denot = record { site = c.self.inside.site; machine = c.self.inside.plain; log = c.self.inside.log; error = c.self.inside.error } in
-    let again : Kept g.row.W.Denot = record { site = c.self-2.inside.site; machine = c.self-2.inside.plain; log = c.self-2.inside.log; error = c.self-2.inside.error } in
+    let inside : Kept g.row.W.Denot = record { site = c.self.inside.site; machine = c.self.inside.sessions; log = c.self.inside.log; error = c.self.inside.error } in
+    let again : Kept g.row.W.Denot = record { site = c.self-2.inside.site; machine = c.self-2.inside.sessions; log = c.self-2.inside.log; error = c.self-2.inside.error } in
     let steps : CommitSteps g.W.Site.tells g.W.Site.state c.args.session c.in-Some.xn c.commits-commit.result inside c.args.self.now c.append.new.self c.flush.new.self again c.commit-2.new.self = record {
       opened = c.self.view_is;
       fits = c.self.invariant.0;
@@ -82,8 +82,8 @@ invariant_of-self-2 g c =
 
 pub returns-clause-answered : goal.returns-clause-answered
 returns-clause-answered g c =
-    let inside : Kept g.row.W.Denot = record { site = c.self.inside.site; machine = c.self.inside.plain; log = c.self.inside.log; error = c.self.inside.error } in
-    let again : Kept g.row.W.Denot = record { site = c.self-2.inside.site; machine = c.self-2.inside.plain; log = c.self-2.inside.log; error = c.self-2.inside.error } in
+    let inside : Kept g.row.W.Denot = record { site = c.self.inside.site; machine = c.self.inside.sessions; log = c.self.inside.log; error = c.self.inside.error } in
+    let again : Kept g.row.W.Denot = record { site = c.self-2.inside.site; machine = c.self-2.inside.sessions; log = c.self-2.inside.log; error = c.self-2.inside.error } in
     let steps : CommitSteps g.W.Site.tells g.W.Site.state c.args.session c.in-Some.xn c.commits-commit.result inside c.args.self.now c.append.new.self c.flush.new.self again c.commit-2.new.self = record {
       opened = c.self.view_is;
       fits = c.self.invariant.0;
@@ -101,8 +101,8 @@ returns-clause-answered g c =
 
 pub returns-clause-moments : goal.returns-clause-moments
 returns-clause-moments g c t =
-    let inside : Kept g.row.W.Denot = record { site = c.self.inside.site; machine = c.self.inside.plain; log = c.self.inside.log; error = c.self.inside.error } in
-    let again : Kept g.row.W.Denot = record { site = c.self-2.inside.site; machine = c.self-2.inside.plain; log = c.self-2.inside.log; error = c.self-2.inside.error } in
+    let inside : Kept g.row.W.Denot = record { site = c.self.inside.site; machine = c.self.inside.sessions; log = c.self.inside.log; error = c.self.inside.error } in
+    let again : Kept g.row.W.Denot = record { site = c.self-2.inside.site; machine = c.self-2.inside.sessions; log = c.self-2.inside.log; error = c.self-2.inside.error } in
     let steps : CommitSteps g.W.Site.tells g.W.Site.state c.args.session c.in-Some.xn c.commits-commit.result inside c.args.self.now c.append.new.self c.flush.new.self again c.commit-2.new.self = record {
       opened = c.self.view_is;
       fits = c.self.invariant.0;

@@ -16,13 +16,13 @@ use Rattle.px_core.proofs.state.Core.roll_back_writes.Goals as goal
 
 pub invariant_of-self-in_default : goal.invariant_of-self-in_default
 invariant_of-self-in_default g c =
-    let none : writer_of c.self.inside.plain c.args.session ≡ None = sym c.stored_writer.ensures ∙ c.in_default.is in
-    (fits_silent c.self.inside.plain c.rollback.new.self c.self.inside.log c.args.session Rollback c.self.invariant.0 (silent_rollback c.self.inside.plain c.args.session none) c.rollback.ensures.state, c.self.invariant.1)
+    let none : writer_of c.self.inside.sessions c.args.session ≡ None = sym c.stored_writer.ensures ∙ c.in_default.is in
+    (fits_silent c.self.inside.sessions c.rollback.new.self c.self.inside.log c.args.session Rollback c.self.invariant.0 (silent_rollback c.self.inside.sessions c.args.session none) c.rollback.ensures.state, c.self.invariant.1)
 
 pub returns-in_default-clause-answered : goal.returns-in_default-clause-answered
 returns-in_default-clause-answered g c =
-    let none : writer_of c.self.inside.plain c.args.session ≡ None = sym c.stored_writer.ensures ∙ c.in_default.is in
-    let inside : Kept g.row.W.Denot = record { site = c.self.inside.site; machine = c.self.inside.plain; log = c.self.inside.log; error = c.self.inside.error } in
+    let none : writer_of c.self.inside.sessions c.args.session ≡ None = sym c.stored_writer.ensures ∙ c.in_default.is in
+    let inside : Kept g.row.W.Denot = record { site = c.self.inside.site; machine = c.self.inside.sessions; log = c.self.inside.log; error = c.self.inside.error } in
     let new : Kept g.row.W.Denot = record inside { machine = c.rollback.new.self } in
     subst (λ (k : Kept g.row.W.Denot). Answers g.W.Site.tells g.W.Site.state c.args.session Rollback k new c.in_ok-rollback.field-0) c.self.view_is
     (answers_silent g.W.Site.tells g.W.Site.state c.args.session Rollback inside new c.in_ok-rollback.field-0 (silent_rollback inside.machine c.args.session none) c.in_ok-rollback.ensures.reply
@@ -31,15 +31,15 @@ returns-in_default-clause-answered g c =
 pub append-requires : goal.append-requires
 append-requires g c =
     let change : Change = RollbackChange c.in-Some.xn in
-    let adds = rollback_adds_one c.self.inside.plain c.args.session c.in-Some.xn (sym c.stored_writer.ensures ∙ c.in-Some.is) in
+    let adds = rollback_adds_one c.self.inside.sessions c.args.session c.in-Some.xn (sym c.stored_writer.ensures ∙ c.in-Some.is) in
     subst (λ (k : Kept g.row.W.Denot). may_hold k.log.tables k.log.frames change ≡ true) c.self.view_is
-    (added_may_stand c.self.inside.plain c.self.inside.log c.args.session Rollback change c.self.invariant.0 c.self.invariant.1 (omega arith) adds)
+    (added_may_stand c.self.inside.sessions c.self.inside.log c.args.session Rollback change c.self.invariant.0 c.self.invariant.1 (omega arith) adds)
 
 pub returns-in_err-append-clause-moments : goal.returns-in_err-append-clause-moments
 returns-in_err-append-clause-moments g c t =
-    let inside : Kept g.row.W.Denot = record { site = c.self.inside.site; machine = c.self.inside.plain; log = c.self.inside.log; error = c.self.inside.error } in
+    let inside : Kept g.row.W.Denot = record { site = c.self.inside.site; machine = c.self.inside.sessions; log = c.self.inside.log; error = c.self.inside.error } in
     let change : Change = RollbackChange c.in-Some.xn in
-    let adds = rollback_adds_one c.self.inside.plain c.args.session c.in-Some.xn (sym c.stored_writer.ensures ∙ c.in-Some.is) in
+    let adds = rollback_adds_one c.self.inside.sessions c.args.session c.in-Some.xn (sym c.stored_writer.ensures ∙ c.in-Some.is) in
     stands_adding g.W.Site.tells g.W.Site.state c.args.session Rollback change c.args.self.now c.args.self.now c.append.new.self rollback_no_commit
     (adds_one g.W.Site.tells g.W.Site.state c.args.session Rollback change inside c.args.self.now c.args.self.now c.append.new.self c.self.view_is c.self.invariant.0 c.self.invariant.1 (omega arith) adds
     (ap (λ (k : Kept g.row.W.Denot). k.log) (sym c.self.view_is)) (ap (λ (k : Kept g.row.W.Denot). k.site) (sym c.self.view_is)) c.append.ensures.moments) t
@@ -47,7 +47,7 @@ returns-in_err-append-clause-moments g c t =
 pub returns-in_err-append-clause-refused : goal.returns-in_err-append-clause-refused
 returns-in_err-append-clause-refused g c =
     let change : Change = RollbackChange c.in-Some.xn in
-    let adds = rollback_adds_one c.self.inside.plain c.args.session c.in-Some.xn (sym c.stored_writer.ensures ∙ c.in-Some.is) in
+    let adds = rollback_adds_one c.self.inside.sessions c.args.session c.in-Some.xn (sym c.stored_writer.ensures ∙ c.in-Some.is) in
     let refused = refuses_adding g.W.Site.tells g.W.Site.state g.W.Site.counts c.args.session Rollback change c.args.self.now c.append.new.self c.in_err-append.field-0.0
     (subst (λ (k : Kept g.row.W.Denot). logged k.machine c.args.session Rollback ≡ change ∷ []) c.self.view_is adds) (inl refl) c.in_err-append.ensures.refused in
     if_err c.from_residual-in_err-append.result _ _ c.from_residual-in_err-append.ensures.1
@@ -55,9 +55,9 @@ returns-in_err-append-clause-refused g c =
 
 pub invariant_of-self-2 : goal.invariant_of-self-2
 invariant_of-self-2 g c =
-    let inside : Kept g.row.W.Denot = record { site = c.self.inside.site; machine = c.self.inside.plain; log = c.self.inside.log; error = c.self.inside.error } in
+    let inside : Kept g.row.W.Denot = record { site = c.self.inside.site; machine = c.self.inside.sessions; log = c.self.inside.log; error = c.self.inside.error } in
     let change : Change = RollbackChange c.in-Some.xn in
-    let adds = rollback_adds_one c.self.inside.plain c.args.session c.in-Some.xn (sym c.stored_writer.ensures ∙ c.in-Some.is) in
+    let adds = rollback_adds_one c.self.inside.sessions c.args.session c.in-Some.xn (sym c.stored_writer.ensures ∙ c.in-Some.is) in
     let appends = c.in_ok-append.ensures.appended in
     let log_is = ap (λ (k : Kept g.row.W.Denot). k.log) c.self-2.view_is ∙ appends.log ∙ ap (λ (k : Kept g.row.W.Denot). with_frame change k.log) (sym c.self.view_is) in
     let same = ap (λ (k : Kept g.row.W.Denot). k.machine) c.self-2.view_is ∙ appends.machine ∙ ap (λ (k : Kept g.row.W.Denot). k.machine) (sym c.self.view_is) in (
@@ -68,10 +68,10 @@ invariant_of-self-2 g c =
 
 pub returns-clause-answered : goal.returns-clause-answered
 returns-clause-answered g c =
-    let inside : Kept g.row.W.Denot = record { site = c.self.inside.site; machine = c.self.inside.plain; log = c.self.inside.log; error = c.self.inside.error } in
-    let again : Kept g.row.W.Denot = record { site = c.self-2.inside.site; machine = c.self-2.inside.plain; log = c.self-2.inside.log; error = c.self-2.inside.error } in
+    let inside : Kept g.row.W.Denot = record { site = c.self.inside.site; machine = c.self.inside.sessions; log = c.self.inside.log; error = c.self.inside.error } in
+    let again : Kept g.row.W.Denot = record { site = c.self-2.inside.site; machine = c.self-2.inside.sessions; log = c.self-2.inside.log; error = c.self-2.inside.error } in
     let change : Change = RollbackChange c.in-Some.xn in
-    let adds = rollback_adds_one c.self.inside.plain c.args.session c.in-Some.xn (sym c.stored_writer.ensures ∙ c.in-Some.is) in
+    let adds = rollback_adds_one c.self.inside.sessions c.args.session c.in-Some.xn (sym c.stored_writer.ensures ∙ c.in-Some.is) in
     let appends = c.in_ok-append.ensures.appended in
     let same : again.machine ≡ c.args.self.now.machine = ap (λ (k : Kept g.row.W.Denot). k.machine) c.self-2.view_is ∙ appends.machine in
     subst (λ (k : Kept g.row.W.Denot). Answers g.W.Site.tells g.W.Site.state c.args.session Rollback c.args.self.now (record k { machine = c.rollback-2.new.self }) c.in_ok-rollback-2.field-0) (sym c.self-2.view_is)
@@ -84,10 +84,10 @@ returns-clause-answered g c =
 
 pub returns-clause-moments : goal.returns-clause-moments
 returns-clause-moments g c t =
-    let inside : Kept g.row.W.Denot = record { site = c.self.inside.site; machine = c.self.inside.plain; log = c.self.inside.log; error = c.self.inside.error } in
-    let again : Kept g.row.W.Denot = record { site = c.self-2.inside.site; machine = c.self-2.inside.plain; log = c.self-2.inside.log; error = c.self-2.inside.error } in
+    let inside : Kept g.row.W.Denot = record { site = c.self.inside.site; machine = c.self.inside.sessions; log = c.self.inside.log; error = c.self.inside.error } in
+    let again : Kept g.row.W.Denot = record { site = c.self-2.inside.site; machine = c.self-2.inside.sessions; log = c.self-2.inside.log; error = c.self-2.inside.error } in
     let change : Change = RollbackChange c.in-Some.xn in
-    let adds = rollback_adds_one c.self.inside.plain c.args.session c.in-Some.xn (sym c.stored_writer.ensures ∙ c.in-Some.is) in
+    let adds = rollback_adds_one c.self.inside.sessions c.args.session c.in-Some.xn (sym c.stored_writer.ensures ∙ c.in-Some.is) in
     subst (λ (k : Kept g.row.W.Denot). StandsWithin g.W.Site.state c.args.session Rollback c.args.self.now k) (sym c.self-2.view_is)
     (stands_adding g.W.Site.tells g.W.Site.state c.args.session Rollback change c.args.self.now c.args.self.now c.append.new.self rollback_no_commit
     (adds_one g.W.Site.tells g.W.Site.state c.args.session Rollback change inside c.args.self.now c.args.self.now c.append.new.self c.self.view_is c.self.invariant.0 c.self.invariant.1 (omega arith) adds

@@ -7,5 +7,5 @@ use Rattle.px_core.proofs.state.Core.rows.Goals as goal
 pub returns-clause-rows : goal.returns-clause-rows
 returns-clause-rows g c =
     c.in_ok-published.ensures
-    ∙ published_all c.self.inside.plain c.commits.result (omega (arith, c.commits.ensures.is))
+    ∙ published_all c.self.inside.sessions c.commits.result (omega (arith, c.commits.ensures.is))
     ∙ ap (λ (k : Kept g.row.W.Denot). rows_now k.machine) c.self.view_is

@@ -14,39 +14,39 @@ use Rattle.px_core.proofs.state.Core.write.Goals as goal
 
 pub invariant_of-self-then-is_refusal : goal.invariant_of-self-then-is_refusal
 invariant_of-self-then-is_refusal g c =
-    (fits_still c.self.inside.plain c.step.new.self c.self.inside.log c.args.session c.args.call.now c.self.invariant.0 (write_no_commit c.args.call.now c.requires) c.in_ok-reply.ensures.state, c.self.invariant.1)
+    (fits_still c.self.inside.sessions c.step.new.self c.self.inside.log c.args.session c.args.call.now c.self.invariant.0 (write_no_commit c.args.call.now c.requires) c.in_ok-reply.ensures.state, c.self.invariant.1)
 
 pub returns-then-is_refusal-clause-answered : goal.returns-then-is_refusal-clause-answered
 returns-then-is_refusal-clause-answered g c =
     let i = c.self.inside in
-    let old : Kept g.row.W.Denot = record { site = i.site; machine = i.plain; log = i.log; error = i.error } in
-    let none = refused_adds_nothing i.plain c.args.session c.args.call.now (ap is_refusal (sym c.in_ok-reply.ensures.reply) ∙ sym c.is_refusal.ensures ∙ c.if-is_refusal.true) in
+    let old : Kept g.row.W.Denot = record { site = i.site; machine = i.sessions; log = i.log; error = i.error } in
+    let none = refused_adds_nothing i.sessions c.args.session c.args.call.now (ap is_refusal (sym c.in_ok-reply.ensures.reply) ∙ sym c.is_refusal.ensures ∙ c.if-is_refusal.true) in
     subst (λ (k : Kept g.row.W.Denot). Answers g.W.Site.tells g.W.Site.state c.args.session c.args.call.now k (record { site = i.site; machine = c.step.new.self; log = i.log; error = i.error }) c.in_ok-reply.reply) c.self.view_is
     (answers_silent g.W.Site.tells g.W.Site.state c.args.session c.args.call.now old (record { site = i.site; machine = c.step.new.self; log = i.log; error = i.error }) c.in_ok-reply.reply none c.in_ok-reply.ensures.reply
     (ap (λ (m : Machine). record old { machine = m }) c.in_ok-reply.ensures.state))
 
 pub invariant_of-self-2 : goal.invariant_of-self-2
 invariant_of-self-2 g c =
-    (fits_still c.self.inside.plain c.step.new.self c.self.inside.log c.args.session c.args.call.now c.self.invariant.0 (write_no_commit c.args.call.now c.requires) c.in_ok-reply.ensures.state, c.self.invariant.1)
+    (fits_still c.self.inside.sessions c.step.new.self c.self.inside.log c.args.session c.args.call.now c.self.invariant.0 (write_no_commit c.args.call.now c.requires) c.in_ok-reply.ensures.state, c.self.invariant.1)
 
 pub append_last_write-requires : goal.append_last_write-requires
 append_last_write-requires g c =
     let i = c.self.inside in
-    let one = writes_one i.plain c.args.session c.args.call.now c.requires (ap is_refusal (sym c.in_ok-reply.ensures.reply) ∙ sym c.is_refusal.ensures ∙ c.if-is_refusal.false) in
-    may_put i.plain c.step.new.self i.log c.args.session c.args.call.now one c.in_ok-reply.ensures.state c.self.invariant.0 c.self.invariant.1 c.tag_of-tag.ensures.fits
+    let one = writes_one i.sessions c.args.session c.args.call.now c.requires (ap is_refusal (sym c.in_ok-reply.ensures.reply) ∙ sym c.is_refusal.ensures ∙ c.if-is_refusal.false) in
+    may_put i.sessions c.step.new.self i.log c.args.session c.args.call.now one c.in_ok-reply.ensures.state c.self.invariant.0 c.self.invariant.1 c.tag_of-tag.ensures.fits
 
 pub invariant_of-self-in-Err : goal.invariant_of-self-in-Err
 invariant_of-self-in-Err g c =
     let i = c.self.inside in
-    let one = writes_one i.plain c.args.session c.args.call.now c.requires (ap is_refusal (sym c.in_ok-reply.ensures.reply) ∙ sym c.is_refusal.ensures ∙ c.if-is_refusal.false) in
-    let moved : c.self-2.inside.plain ≡ c.step.new.self = ap (λ (k : Kept g.row.W.Denot). k.machine) c.self-2.view_is ∙ c.append_last_write.ensures.machine in
-    let back : c.unwrite.new.self ≡ i.plain = c.unwrite.ensures.takes_back i.plain one.write (moved ∙ c.in_ok-reply.ensures.state ∙ one.leaves) in
-    let fits = fits_back i.plain c.self-2.inside.plain i.log c.self-2.inside.log c.args.session c.args.call.now c.self.invariant.0 c.self-2.invariant.0 (write_no_commit c.args.call.now c.requires) (moved ∙ c.in_ok-reply.ensures.state) in
+    let one = writes_one i.sessions c.args.session c.args.call.now c.requires (ap is_refusal (sym c.in_ok-reply.ensures.reply) ∙ sym c.is_refusal.ensures ∙ c.if-is_refusal.false) in
+    let moved : c.self-2.inside.sessions ≡ c.step.new.self = ap (λ (k : Kept g.row.W.Denot). k.machine) c.self-2.view_is ∙ c.append_last_write.ensures.machine in
+    let back : c.unwrite.new.self ≡ i.sessions = c.unwrite.ensures.takes_back i.sessions one.write (moved ∙ c.in_ok-reply.ensures.state ∙ one.leaves) in
+    let fits = fits_back i.sessions c.self-2.inside.sessions i.log c.self-2.inside.log c.args.session c.args.call.now c.self.invariant.0 c.self-2.invariant.0 (write_no_commit c.args.call.now c.requires) (moved ∙ c.in_ok-reply.ensures.state) in
     (subst (λ (m : Machine). Fits m c.self-2.inside.log) (sym back) fits, c.self-2.invariant.1)
 
 pub returns-in-Err-clause-moments : goal.returns-in-Err-clause-moments
 returns-in-Err-clause-moments g c t =
-    let inside : Kept g.row.W.Denot = record { site = c.self.inside.site; machine = c.self.inside.plain; log = c.self.inside.log; error = c.self.inside.error } in
+    let inside : Kept g.row.W.Denot = record { site = c.self.inside.site; machine = c.self.inside.sessions; log = c.self.inside.log; error = c.self.inside.error } in
     let mid : Kept g.row.W.Denot = record inside { machine = c.step.new.self } in
     let one = writes_one inside.machine c.args.session c.args.call.now c.requires (ap is_refusal (sym c.in_ok-reply.ensures.reply) ∙ sym c.is_refusal.ensures ∙ c.if-is_refusal.false) in
     let xn = inside.machine.base + one.xact.number in
@@ -60,7 +60,7 @@ returns-in-Err-clause-moments g c t =
 
 pub returns-in-Err-clause-refused : goal.returns-in-Err-clause-refused
 returns-in-Err-clause-refused g c =
-    let inside : Kept g.row.W.Denot = record { site = c.self.inside.site; machine = c.self.inside.plain; log = c.self.inside.log; error = c.self.inside.error } in
+    let inside : Kept g.row.W.Denot = record { site = c.self.inside.site; machine = c.self.inside.sessions; log = c.self.inside.log; error = c.self.inside.error } in
     let mid : Kept g.row.W.Denot = record inside { machine = c.step.new.self } in
     let one = writes_one inside.machine c.args.session c.args.call.now c.requires (ap is_refusal (sym c.in_ok-reply.ensures.reply) ∙ sym c.is_refusal.ensures ∙ c.if-is_refusal.false) in
     let xn = inside.machine.base + one.xact.number in
@@ -68,7 +68,7 @@ returns-in-Err-clause-refused g c =
     let writer = writer_is inside.machine c.step.new.self c.args.session c.args.call.now one c.in_ok-reply.ensures.state in
     let last = last_is inside.machine c.step.new.self c.args.session c.args.call.now one c.in_ok-reply.ensures.state in
     let old : Kept g.row.W.Denot = c.args.self.now in
-    let moved : c.self-2.inside.plain ≡ c.step.new.self = ap (λ (k : Kept g.row.W.Denot). k.machine) c.self-2.view_is ∙ c.append_last_write.ensures.machine in
+    let moved : c.self-2.inside.sessions ≡ c.step.new.self = ap (λ (k : Kept g.row.W.Denot). k.machine) c.self-2.view_is ∙ c.append_last_write.ensures.machine in
     let back : c.unwrite.new.self ≡ old.machine = c.unwrite.ensures.takes_back inside.machine one.write (moved ∙ c.in_ok-reply.ensures.state ∙ one.leaves) ∙ ap (λ (k : Kept g.row.W.Denot). k.machine) c.self.view_is in
     let same : mid ≡ record old { machine = mid.machine } = ap (λ (k : Kept g.row.W.Denot). record k { machine = mid.machine }) c.self.view_is in
     let adds = subst (λ (k : Kept g.row.W.Denot). logged k.machine c.args.session c.args.call.now ≡ change ∷ []) c.self.view_is one.adds in
@@ -80,7 +80,7 @@ returns-in-Err-clause-refused g c =
 
 pub returns-clause-answered : goal.returns-clause-answered
 returns-clause-answered g c =
-    let inside : Kept g.row.W.Denot = record { site = c.self.inside.site; machine = c.self.inside.plain; log = c.self.inside.log; error = c.self.inside.error } in
+    let inside : Kept g.row.W.Denot = record { site = c.self.inside.site; machine = c.self.inside.sessions; log = c.self.inside.log; error = c.self.inside.error } in
     let mid : Kept g.row.W.Denot = record inside { machine = c.step.new.self } in
     let one = writes_one inside.machine c.args.session c.args.call.now c.requires (ap is_refusal (sym c.in_ok-reply.ensures.reply) ∙ sym c.is_refusal.ensures ∙ c.if-is_refusal.false) in
     let xn = inside.machine.base + one.xact.number in
@@ -100,7 +100,7 @@ returns-clause-answered g c =
 
 pub returns-clause-moments : goal.returns-clause-moments
 returns-clause-moments g c t =
-    let inside : Kept g.row.W.Denot = record { site = c.self.inside.site; machine = c.self.inside.plain; log = c.self.inside.log; error = c.self.inside.error } in
+    let inside : Kept g.row.W.Denot = record { site = c.self.inside.site; machine = c.self.inside.sessions; log = c.self.inside.log; error = c.self.inside.error } in
     let mid : Kept g.row.W.Denot = record inside { machine = c.step.new.self } in
     let one = writes_one inside.machine c.args.session c.args.call.now c.requires (ap is_refusal (sym c.in_ok-reply.ensures.reply) ∙ sym c.is_refusal.ensures ∙ c.if-is_refusal.false) in
     let xn = inside.machine.base + one.xact.number in

@@ -1,0 +1,4 @@
+pub mod Freed
+pub mod Indexed
+pub mod Newest
+pub mod Writers

@@ -1,0 +1,41 @@
+ghost use Rattle.std.specs.Prelude.{◌≡◌, IfOk, OnOk, OnErr};
+ghost use Rattle.px_calls.specs.Steps.{reply_of, state_after};
+
+use super::Sessions;
+use px_calls::{Call, Reply};
+use px_model::Session;
+use std::alloc::AllocError;
+
+impl Sessions {
+    /// One call of a session, whichever it is.
+    #[tactic(auto, using(px_plain::proofs::ReadingCalls::reads_change_nothing))]
+    pub fn step(&mut self, session: Session, call: &Call) -> Result<Reply, AllocError>
+        ensures reply { IfOk result (λ reply. reply ≡ reply_of self.old session call.now) }
+        ensures state { OnOk result (self.new ≡ state_after self.old session call.now) }
+        ensures err { OnErr result (self.new ≡ self.old) }
+    {
+        match call {
+            Call::Begin => self.begin(session),
+            Call::Get { table, key } => self.get(session, *table, key.as_slice()),
+            Call::Hold { table, key } => self.hold(session, *table, key.as_slice()),
+            Call::Fetch { ticket } => self.fetch(session, *ticket),
+            Call::Find { table, tag } => self.find(session, *table, *tag),
+            Call::Scan { table } => self.scan(session, *table),
+            Call::Insert {
+                table,
+                key,
+                tag,
+                body,
+            } => self.insert(session, *table, key.as_slice(), *tag, body.as_slice()),
+            Call::Update {
+                table,
+                key,
+                tag,
+                body,
+            } => self.update(session, *table, key.as_slice(), *tag, body.as_slice()),
+            Call::Delete { table, key } => self.delete(session, *table, key.as_slice()),
+            Call::Commit => self.commit(session),
+            Call::Rollback => self.rollback(session),
+        }
+    }
+}
