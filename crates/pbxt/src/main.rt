@@ -6,12 +6,10 @@ use px_calls::Status;
 use px_model::{Bytes, WordList};
 use px_realsite::RealSite;
 use px_run::pbxt_run;
-use px_site::Fault;
 use px_source::StdinSource;
 use std::alloc::AllocError;
 use std::env;
-use std::fs::File;
-use std::io::{self, ErrorKind};
+use std::io::ErrorKind;
 use std::process::ExitCode;
 
 /// Where the store's files lie.
@@ -27,23 +25,10 @@ fn main(rt: HostRuntime) -> ExitCode {
 
 /// Fails only for want of memory, before anything is done.
 fn run(rt: &HostRuntime) -> Result<Status, AllocError> {
-    let Ok(_streams) = in_place_of_streams(rt) else {
-        return Ok(Status::DiskFault(Fault::Read));
-    };
     let words = words_of(rt)?;
     let mut source = StdinSource::new(rt.clone()?);
     let mut site = RealSite::new(rt.clone()?, FOLDER)?;
     Ok(pbxt_run(rt.alloc(), &words, &mut source, &mut site))
-}
-
-/// Takes the numbers of those of the three streams that are closed. Else the system would give one of them to a file of the
-/// store, and what is told would be written into that file. A folder stands in their place: it can be neither read nor
-/// written as a stream, so a closed stream still answers its fault. Where none is closed, three numbers more are taken.
-fn in_place_of_streams(rt: &HostRuntime) -> io::Result<[File; 3]> {
-    let input = File::open(rt, "/")?;
-    let output = File::open(rt, "/")?;
-    let errors = File::open(rt, "/")?;
-    Ok([input, output, errors])
 }
 
 /// The words of the command line, without the program's name. Where one is no text, no word: they are no command.

@@ -1,11 +1,12 @@
-//! The loops that are timed beside the same loops in C (bench/run). The first argument names the work, the
-//! second how many bytes it goes over; without arguments each work is done once over a few bytes. What came
-//! of the work stands on standard output, and how long its loops took on standard error.
+//! The loops that are timed beside the same loops in C (bench/run), and whose calls of the system are counted
+//! (outside/calls). The first argument names the work, the second how many bytes it goes over; without arguments each
+//! work is done once over a few bytes. What came of the work stands on standard output, and how long its loops took on
+//! standard error.
 //!
 //! - `sums`: the sum over bytes.
 //! - `frames`: frames written one after the other, and read again.
 //! - `lines`: the lines of standard input, split and parsed.
-//! - `files`: pieces written to a file of a folder, and synced.
+//! - `files`: pieces written to a file of a folder, synced and read, and files made and listed.
 //! - `log`: frames appended to a log in a folder.
 //! - `timing`: how long a loop took.
 #![tactic(auto)]
@@ -41,10 +42,12 @@ fn main(rt: HostRuntime) -> anyhow::Result<()> {
         "lines" => lines::run(&rt),
         "writes" => files::writes(&rt, size),
         "syncs" => files::syncs(&rt, size),
+        "reads" => files::reads(&rt, size),
+        "lists" => files::lists(&rt, size),
         "appends" => log::appends(&rt, size),
         _ => {
             println!(&rt;
-                "px_bench [fnv BYTES|frames BYTES|lines|writes TIMES|syncs TIMES|appends TIMES]"
+                "px_bench [fnv BYTES|frames BYTES|lines|writes TIMES|syncs TIMES|reads TIMES|lists FILES|appends TIMES]"
             )?;
             Ok(())
         }
@@ -57,5 +60,7 @@ fn all(rt: &HostRuntime) -> anyhow::Result<()> {
     lines::run(rt)?;
     files::writes(rt, TIMES)?;
     files::syncs(rt, TIMES)?;
+    files::reads(rt, TIMES)?;
+    files::lists(rt, TIMES)?;
     log::appends(rt, TIMES)
 }

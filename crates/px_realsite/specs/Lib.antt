@@ -1,3 +1,4 @@
 pub mod Failure
 pub mod OpenFiles
 pub mod RealSite
+pub mod Streams

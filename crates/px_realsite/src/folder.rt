@@ -236,7 +236,7 @@ impl Folder {
             .write(true)
             .open(rt, path.as_str())
         {
-            Ok(handle) => Ok(Some(self.handles.add(name, handle))),
+            Ok(handle) => Ok(Some(self.handles.add(name, handle)?)),
             Err(error) if error.kind() == ErrorKind::NotFound => Ok(None),
             Err(error) => Err(error),
         }
@@ -266,7 +266,7 @@ impl Folder {
             }
             created => created?,
         };
-        Ok(self.handles.add(name, handle))
+        self.handles.add(name, handle)
     }
 
     /// Closes a file where no other may be opened.

@@ -1,6 +1,8 @@
 //! One open file, read and written at places.
 ghost use Rattle.std.specs.Prelude.{◌≡◌, ◌≤◌, ◌+◌, length, IfOk, false, true, OnOk};
+ghost use Rattle.px_realsite.specs.Streams.{IsNoStream};
 
+use crate::streams::apart_from_streams;
 use px_site::{FileName, LONGEST_FILE};
 use std::fs::File;
 use std::io::{self, ErrorKind};
@@ -13,18 +15,20 @@ pub(crate) struct OpenFile {
     handle: File,
     /// Whether it was changed through this handle since its last sync.
     is_changed: bool,
+    ghost no_stream: { IsNoStream handle },
 }
 
 impl OpenFile {
-    pub(crate) fn new(name: FileName, handle: File) -> OpenFile
-        ensures named { result.name ≡ name }
-        ensures unchanged { result.is_changed ≡ false }
+    /// A file that was just opened.
+    pub(crate) fn new(name: FileName, handle: File) -> io::Result<OpenFile>
+        ensures named { IfOk result (λ file. file.name ≡ name) }
+        ensures unchanged { IfOk result (λ file. file.is_changed ≡ false) }
     {
-        OpenFile {
+        Ok(OpenFile {
             name,
-            handle,
+            handle: apart_from_streams(handle)?,
             is_changed: false,
-        }
+        })
     }
 
     /// The file's length, or an error where that is past the greatest.

@@ -1,5 +1,5 @@
 //! The files that are open.
-ghost use Rattle.std.specs.Prelude.{◌≤◌, ◌<◌, ℕ, length, vec_len, IfSome, IfNone};
+ghost use Rattle.std.specs.Prelude.{◌≤◌, ◌<◌, ℕ, length, vec_len, IfOk, IfSome, IfNone};
 ghost use Rattle.std.specs.Vec.{vec_capacity};
 ghost use Rattle.px_realsite.specs.OpenFiles.{IsNamed};
 ghost use Rattle.px_realsite.specs.declared.open_files.TheConstants.{MOST_OPEN};
@@ -56,14 +56,15 @@ impl OpenFiles {
     }
 
     /// Takes a file that was opened, and answers where it stands.
-    pub(crate) fn add(&mut self, name: FileName, handle: File) -> usize
+    pub(crate) fn add(&mut self, name: FileName, handle: File) -> io::Result<usize>
         requires { vec_len self.old.files < MOST_OPEN }
-        ensures within { result < vec_len self.new.files }
-        ensures named { IsNamed self.new.files.items name result }
+        ensures within { IfOk result (λ at. at < vec_len self.new.files) }
+        ensures named { IfOk result (IsNamed self.new.files.items name) }
     {
+        let file = OpenFile::new(name, handle)?;
         let at = self.files.len();
-        self.files.push_reserved(OpenFile::new(name, handle));
-        at
+        self.files.push_reserved(file);
+        Ok(at)
     }
 
     /// Closes the file without a sync, since it has no name any more.

@@ -1,3 +1,4 @@
+use crate::calls::{Call, first_wrong};
 use crate::folders::{clear, site_over};
 use px_site::{Fault, FileName, Site, SiteError};
 use std::fs;
@@ -35,8 +36,8 @@ fn a_file_stands_in_the_place_of_the_folder(rt: HostRuntime) -> Result<(), Fail>
     fs::remove_file(&rt, "blocked")?;
 
     // Once the folder can be had, the calls answer again.
-    site.write_at(LOG, 0, b"a")?;
-    site.sync(LOG)?;
+    let calls = [Call::Write(LOG, 0, b"a"), Call::Sync(LOG)];
+    assert_eq!(rt; first_wrong(&mut site, &calls), None);
     clear(&rt, "blocked")
 }
 

@@ -2,12 +2,15 @@
 //!
 //! Each test has a folder of its own name in the folder where it is run, and removes it.
 //!
+//! - `calls`: calls of a site as rows of a table
 //! - `contents`: files as they are written, cut, removed and found again
 //! - `listings`: which names are listed, and a listing while files come and go
 //! - `faults`: which kind of fault each call answers
 //! - `sources`: sources in memory, call by call
 #![tactic(auto)]
 
+#[cfg(test)]
+mod calls;
 #[cfg(test)]
 mod contents;
 #[cfg(test)]
