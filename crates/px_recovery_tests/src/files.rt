@@ -53,7 +53,23 @@ pub const FRAMES: &[u8; 388] =
 /// Where the frames end.
 pub const ENDS: [usize; 11] = [0, 44, 78, 121, 164, 198, 243, 277, 311, 354, 388];
 
-/// The first of them, and one whose payload has the kind 9.
+/// Fronts of the log: so many bytes of it, the frames that are whole there, and the commits and the rows of those.
+pub const FRONTS: [(usize, usize, u64, u64); 12] = [
+    (0, 0, 0, 0),
+    (43, 0, 0, 0),
+    (44, 1, 0, 0),
+    (78, 2, 1, 1),
+    (120, 2, 1, 1),
+    (198, 5, 1, 1),
+    (243, 6, 1, 1),
+    (276, 6, 1, 1),
+    (277, 7, 2, 2),
+    (311, 8, 3, 3),
+    (354, 9, 3, 3),
+    (388, 10, 4, 2),
+];
+
+/// The first of the frames, and one whose payload has the kind 9.
 pub const FOREIGN: &[u8; 78] = b"\x00\x00\x00\x1c\x1b\xc2\xde\x8f\x00\x00\x00\x00\x00\x00\x00\x00\
     \x01\x00\x00\x00\x00\x00\x00\x00\x01\x00\x00\x00\x00\x00\x00\x00\
     \x00\x01\x01\x01\x00\x00\x00\x05\x00\x01\x61\xaa\x00\x00\x00\x12\

@@ -1,54 +1,13 @@
 ghost use Rattle.std.specs.Prelude.{◌^◌, ◌≤◌, length};
 
-use crate::files::{ENDS, FIRST, FOREIGN, FRAMES, LOG, MADE, SAVED, SECOND};
+use crate::files::{FOREIGN, FRONTS, LOG, SAVED, SECOND};
+use crate::stores::{found, frames, front, opened, store};
 use px_memsite::MemSite;
-use px_recovery::{OpenError, OpenReport, make, open_store};
+use px_recovery::{OpenError, make, open_store};
 use px_site::Fault;
 use std::alloc::Global;
 use std::process::Abort;
 use std::test::Fail;
-
-/// A store with this log, of whose site the calls with these numbers fail.
-fn store(alloc: Global, calls: &[u64], log: &[u8]) -> Result<MemSite, Fail>
-    requires { length log.now ≤ 2 ^ 48 }
-{
-    let mut site = MemSite::failing(alloc, calls)?;
-    site.put_file(FIRST, MADE.as_slice())?;
-    site.put_file(LOG, log)?;
-    Ok(site)
-}
-
-/// The first bytes of the log.
-fn front(rt: &impl Abort, size: usize) -> &'static [u8]
-    ensures { length result.now ≤ 2 ^ 48 }
-{
-    assert!(rt; size <= FRAMES.len());
-    &FRAMES[..size]
-}
-
-/// Its first frames.
-fn frames(rt: &impl Abort, count: usize) -> &'static [u8]
-    ensures { length result.now ≤ 2 ^ 48 }
-{
-    assert!(rt; count < ENDS.len());
-    front(rt, ENDS[count])
-}
-
-/// Opens the store, and leaves the site behind.
-fn opened(alloc: Global, site: &mut MemSite) -> Result<OpenReport, OpenError> {
-    match open_store(alloc, site) {
-        Ok(opened) => Ok(opened.report),
-        Err(refused) => Err(refused.error),
-    }
-}
-
-fn found(commits: u64, rows: u64, redone: u64) -> Result<OpenReport, OpenError> {
-    Ok(OpenReport {
-        commits,
-        rows,
-        redone,
-    })
-}
 
 #[test]
 fn a_store_that_was_made_is_opened(rt: HostRuntime) -> Result<(), Fail> {
@@ -61,21 +20,7 @@ fn a_store_that_was_made_is_opened(rt: HostRuntime) -> Result<(), Fail> {
 
 #[test]
 fn a_front_of_a_log_is_opened(rt: HostRuntime) -> Result<(), Fail> {
-    // so many bytes of the log; the frames that are whole there, the commits and the rows
-    for (size, whole, commits, rows) in [
-        (0, 0, 0, 0),
-        (43, 0, 0, 0),
-        (44, 1, 0, 0),
-        (78, 2, 1, 1),
-        (120, 2, 1, 1),
-        (198, 5, 1, 1),
-        (243, 6, 1, 1),
-        (276, 6, 1, 1),
-        (277, 7, 2, 2),
-        (311, 8, 3, 3),
-        (354, 9, 3, 3),
-        (388, 10, 4, 2),
-    ] {
+    for (size, whole, commits, rows) in FRONTS {
         let mut site = store(rt.alloc(), &[], front(&rt, size))?;
         let report = opened(rt.alloc(), &mut site);
         assert_eq!(rt; report, found(commits, rows, whole as u64), "{size} bytes");

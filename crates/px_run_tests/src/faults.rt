@@ -1,38 +1,11 @@
-use crate::stores::{call, crash_at, failing_store, store, told_by, told_since, words_of};
+use crate::scripts::{NOT_ACKNOWLEDGED, run_with_fault, sync_of_the_commit};
+use crate::stores::{call, crash_at, store, told_by, told_since, words_of};
 use px_calls::Status;
-use px_memsite::{Failure, Keep, MemSite};
+use px_memsite::{Failure, Keep, MemSite, Pick};
 use px_model::Bytes;
 use px_run::pbxt_run;
 use px_source::MemSource;
-use std::alloc::Global;
 use std::test::Fail;
-
-/// A transaction with one write, which is committed.
-const COMMIT: &str = "a begin\na insert 1 01 0 aa\na get 1 01\na commit\n";
-
-/// What is told where the commit's sync fails.
-const NOT_SYNCED: &str =
-    "opened commits 0 rows 0 redone 0\nbegan 1\ninserted\nrow 0 aa\ndisk fault: sync\n";
-
-/// A store on which that call fails, in or after its making, with what a run of `COMMIT` told on it, and its exit status.
-fn run_with_fault(alloc: Global, number: u64) -> Result<(MemSite, String, u8), Fail> {
-    let mut site = failing_store(alloc, &[number])?;
-    let before = site.told().len();
-    let status = call(alloc, "run", COMMIT, &mut site)?;
-    let told = told_since(alloc, before, &site)?;
-    Ok((site, told, status.code()))
-}
-
-/// The call whose failure is that of the commit's sync.
-fn sync_of_the_commit(alloc: Global) -> Result<u64, Fail> {
-    for number in 0..100 {
-        let (_site, told, code) = run_with_fault(alloc, number)?;
-        if told.as_str() == NOT_SYNCED && code == 6 {
-            return Ok(number);
-        }
-    }
-    Err(Fail::new("no failing sync is told"))
-}
 
 #[test]
 fn a_commit_whose_sync_fails_is_not_acknowledged(rt: HostRuntime) -> Result<(), Fail> {
@@ -44,7 +17,7 @@ fn a_commit_whose_sync_fails_is_not_acknowledged(rt: HostRuntime) -> Result<(), 
     ] {
         let (site, _told, _code) = run_with_fault(alloc, number)?;
         let moment = site.moments();
-        let mut left = crash_at(site, moment, keep)?;
+        let mut left = crash_at(site, Pick { moment, keep })?;
         assert_eq!(rt; told_by(alloc, "run", "", &mut left)?.as_str(), want);
     }
     Ok(())
@@ -62,8 +35,11 @@ fn each_failing_call_ends_the_run_by_its_kind(rt: HostRuntime) -> Result<(), Fai
             code == 0 || code == 8 || (code == 6 && on_disk),
             "at {number}: {told:?}"
         );
-        let moment = site.moments();
-        let mut left = crash_at(site, moment, Keep::Written)?;
+        let pick = Pick {
+            moment: site.moments(),
+            keep: Keep::Written,
+        };
+        let mut left = crash_at(site, pick)?;
         let status = call(alloc, "run", "", &mut left)?;
         assert_eq!(rt; status.code(), 0, "at {number}");
     }
@@ -95,7 +71,7 @@ fn an_input_that_fails_ends_the_run(rt: HostRuntime) -> Result<(), Fail> {
     let mut site = store(alloc)?;
     let before = site.told().len();
     let words = words_of(alloc, "run")?;
-    let input = Bytes::from_slice(alloc, COMMIT.as_bytes())?;
+    let input = Bytes::from_slice(alloc, NOT_ACKNOWLEDGED.lines.as_bytes())?;
     let mut source = MemSource::new(input, 7, Bytes::from_slice(alloc, &[0])?);
     let status = pbxt_run(alloc, &words, &mut source, &mut site);
     assert_eq!(rt; status.code(), Status::SourceFault.code());

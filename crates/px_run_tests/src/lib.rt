@@ -1,8 +1,8 @@
 //! Tests of the program over a site in memory, with inputs and texts that were written down by hand.
 //!
-//! `stores` calls the program on a site, `calls` has the table of calls and what they tell, `faults` lets a call of the
-//! site or a read of the input fail, `crashes` stops a run at every moment and opens again what is left, and `limits`
-//! reaches what a run can't pass.
+//! `stores` calls the program on a site, and `calls` has the table of calls and what they tell. `scripts` has the scripts
+//! that are crashed, `crashes` stops their runs at every moment, and every opening of what is left, and `faults` lets a call
+//! of the site or a read of the input fail. `limits` reaches what a run or a transaction can't pass, and plays long scripts.
 #![tactic(auto)]
 
 #[cfg(test)]
@@ -13,5 +13,7 @@ mod crashes;
 mod faults;
 #[cfg(test)]
 mod limits;
+#[cfg(test)]
+mod scripts;
 #[cfg(test)]
 mod stores;

@@ -1,5 +1,5 @@
 use px_calls::Status;
-use px_memsite::{Keep, MemSite, Pick};
+use px_memsite::{MemSite, Pick};
 use px_model::{Bytes, WordList};
 use px_run::pbxt_run;
 use px_source::MemSource;
@@ -65,10 +65,10 @@ pub(crate) fn told_since(alloc: Global, before: usize, site: &MemSite) -> Result
     Ok(String::from_str(alloc, str::from_utf8(told)?)?)
 }
 
-/// What a crash at that moment leaves.
-pub(crate) fn crash_at(site: MemSite, moment: u64, keep: Keep) -> Result<MemSite, Fail> {
-    if moment > site.moments() {
+/// What that crash leaves.
+pub(crate) fn crash_at(site: MemSite, pick: Pick) -> Result<MemSite, Fail> {
+    if pick.moment > site.moments() {
         return Err(Fail::new("no such moment"));
     }
-    Ok(site.crash(Pick { moment, keep })?)
+    Ok(site.crash(pick)?)
 }
