@@ -1,4 +1,5 @@
-pub mod Failure
+pub mod Folder
 pub mod OpenFiles
+pub mod Path
 pub mod RealSite
 pub mod Streams

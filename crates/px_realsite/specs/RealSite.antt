@@ -1,5 +1,5 @@
 -- What a real site shows of itself.
-use Rattle.std.specs.Prelude.{◌≡◌, true, false}
+use Rattle.std.specs.Prelude.{◌≡◌, ℕ, true, false, List, string_bytes}
 use Rattle.px_site.specs.Cause.{Counts}
 use Rattle.px_site.specs.Tally.{counts_of}
 use Rattle.px_realsite.specs.declared.real_site.RealSite.{RealSite}
@@ -7,6 +7,10 @@ use Rattle.px_realsite.specs.declared.real_site.RealSite.{RealSite}
 -- how many calls answered each error
 abbrev pub counted : {R : Type 0} → RealSite R → Counts
 counted site = counts_of site.tally
+
+-- the path of the folder whose files it has, in bytes
+abbrev pub folder_path : {R : Type 0} → RealSite R → List ℕ
+folder_path site = string_bytes site.folder.path
 
 -- the names that came and went in the folder are durable, and its own in the one above; and no sync ever failed
 pub record HasDurableNames {R : Type 0} (site : RealSite R) : Type 0 where

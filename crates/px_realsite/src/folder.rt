@@ -1,8 +1,8 @@
 //! The folder of a site. It answers the system's errors as they are; what they count as is said in `real_site`.
-ghost use Rattle.std.specs.Prelude.{◌≡◌, ◌<◌, ◌≤◌, ◌+◌, length, vec_len, IfOk, IfSome, OnOk, None, true, false, ◌||◌, is_err, IsErr};
+ghost use Rattle.std.specs.Prelude.{◌≡◌, ◌<◌, ◌≤◌, ◌+◌, length, vec_len, string_bytes, IfOk, IfSome, OnOk, None, true, false, ◌||◌, is_err, IsErr};
 ghost use Rattle.px_site.specs.State.{IsListed};
-ghost use Rattle.px_realsite.specs.Failure.{KeepsFailure};
 ghost use Rattle.px_realsite.specs.OpenFiles.{IsNamed};
+ghost use Rattle.px_realsite.specs.Path.{path_or_current};
 
 use crate::open_files::{MOST_OPEN, OpenFiles};
 use crate::path::path_of;
@@ -29,7 +29,11 @@ pub(crate) struct Folder {
 }
 
 impl Folder {
+    ghost use Rattle.px_realsite.specs.Folder.{Remembers};
+
+    /// The folder of this path, the current one where the path is empty.
     pub(crate) fn new(alloc: Global, path: &str) -> Result<Folder, AllocError>
+        ensures over { IfOk result (λ folder. string_bytes folder.path ≡ path_or_current path.now) }
         ensures names { IfOk result (λ folder. folder.names_synced ≡ false) }
         ensures folder { IfOk result (λ folder. folder.folder_synced ≡ false) }
     {
@@ -50,7 +54,7 @@ impl Folder {
         name: FileName,
     ) -> io::Result<u64>
         ensures bound { IfOk result (λ len. len ≤ LONGEST_FILE) }
-        ensures remembered { KeepsFailure self.old.sync_failed self.new.sync_failed }
+        ensures remembered { Remembers self.old self.new }
     {
         match self.find(rt, name)? {
             Some(at) => self.handles.files[at].len(),
@@ -66,7 +70,7 @@ impl Folder {
         buf: &mut [u8],
     ) -> io::Result<usize>
         ensures bound { IfOk result (λ count. count ≤ length buf.new) }
-        ensures remembered { KeepsFailure self.old.sync_failed self.new.sync_failed }
+        ensures remembered { Remembers self.old self.new }
     {
         if place >= LONGEST_FILE {
             return Ok(0);
@@ -85,7 +89,7 @@ impl Folder {
         bytes: &[u8],
     ) -> io::Result<()>
         requires { place + length bytes.now ≤ LONGEST_FILE }
-        ensures remembered { KeepsFailure self.old.sync_failed self.new.sync_failed }
+        ensures remembered { Remembers self.old self.new }
     {
         let at = match self.find(rt, name)? {
             Some(at) => at,
@@ -100,7 +104,7 @@ impl Folder {
         name: FileName,
         len: u64,
     ) -> io::Result<()>
-        ensures remembered { KeepsFailure self.old.sync_failed self.new.sync_failed }
+        ensures remembered { Remembers self.old self.new }
     {
         match self.find(rt, name)? {
             Some(at) => self.handles.files[at].cut(len),
@@ -118,7 +122,7 @@ impl Folder {
         ensures folder { OnOk result (self.new.folder_synced ≡ true) }
         ensures none_failed { OnOk result (self.new.sync_failed ≡ false) }
         ensures refused { self.old.sync_failed ≡ true → IsErr result }
-        ensures remembered { KeepsFailure self.old.sync_failed self.new.sync_failed }
+        ensures remembered { Remembers self.old self.new }
     {
         self.sync_file(rt, name)?;
         self.sync_names(rt)?;
@@ -133,7 +137,7 @@ impl Folder {
         rt: &R,
         name: FileName,
     ) -> io::Result<()>
-        ensures remembered { KeepsFailure self.old.sync_failed self.new.sync_failed }
+        ensures remembered { Remembers self.old self.new }
     {
         match self.find(rt, name)? {
             Some(at) => {
@@ -148,7 +152,7 @@ impl Folder {
     fn sync_names<R: Files<File = File> + AllocGlobal>(&mut self, rt: &R) -> io::Result<()>
         ensures names { OnOk result (self.new.names_synced ≡ true) }
         ensures folder { OnOk result (self.new.folder_synced ≡ true) }
-        ensures remembered { KeepsFailure self.old.sync_failed self.new.sync_failed }
+        ensures remembered { Remembers self.old self.new }
     {
         if !self.names_synced {
             self.sync_folder(rt, ".")?;
@@ -168,7 +172,7 @@ impl Folder {
         step: &str,
     ) -> io::Result<()>
         ensures names { self.new.names_synced ≡ self.old.names_synced }
-        ensures remembered { KeepsFailure self.old.sync_failed self.new.sync_failed }
+        ensures remembered { Remembers self.old self.new }
     {
         let path = format!(in rt.alloc(); "{}/{step}", self.path.as_str())?;
         match File::open(rt, path.as_str()) {
@@ -184,7 +188,7 @@ impl Folder {
         rt: &R,
         name: FileName,
     ) -> io::Result<()>
-        ensures remembered { KeepsFailure self.old.sync_failed self.new.sync_failed }
+        ensures remembered { Remembers self.old self.new }
     {
         let path = path_of(rt.alloc(), self.path.as_str(), name)?;
         match fs::remove_file(rt, path.as_str()) {
@@ -203,7 +207,7 @@ impl Folder {
         after: Option<FileName>,
     ) -> io::Result<Option<FileName>>
         ensures bound { IfOk result (λ found. IfSome found (IsListed after)) }
-        ensures remembered { KeepsFailure self.old.sync_failed self.new.sync_failed }
+        ensures remembered { Remembers self.old self.new }
     {
         let mut walk = match self.walk.take() {
             Some(walk) if walk.goes_on_after(after) => walk,
@@ -224,7 +228,7 @@ impl Folder {
     ) -> io::Result<Option<usize>>
         ensures within { IfOk result (λ found. IfSome found (λ at. at < vec_len self.new.handles.files)) }
         ensures named { IfOk result (λ found. IfSome found (IsNamed self.new.handles.files.items name)) }
-        ensures remembered { KeepsFailure self.old.sync_failed self.new.sync_failed }
+        ensures remembered { Remembers self.old self.new }
     {
         if let Some(at) = self.handles.position(name) {
             return Ok(Some(at));
@@ -252,7 +256,7 @@ impl Folder {
         ensures named { IfOk result (IsNamed self.new.handles.files.items name) }
         ensures unsynced { OnOk result (self.new.names_synced ≡ false) }
         ensures no_walk { OnOk result (self.new.walk ≡ None) }
-        ensures remembered { KeepsFailure self.old.sync_failed self.new.sync_failed }
+        ensures remembered { Remembers self.old self.new }
     {
         let path = path_of(rt.alloc(), self.path.as_str(), name)?;
         self.walk = None;
@@ -274,7 +278,7 @@ impl Folder {
         ensures room { vec_len self.new.handles.files < MOST_OPEN }
         ensures names { self.new.names_synced ≡ self.old.names_synced }
         ensures walk { self.new.walk ≡ self.old.walk }
-        ensures remembered { KeepsFailure self.old.sync_failed self.new.sync_failed }
+        ensures remembered { Remembers self.old self.new }
     {
         let closed = self.handles.make_room();
         self.sync_failed = self.sync_failed || closed.is_err();
@@ -285,6 +289,7 @@ impl Folder {
         ensures value { result ≡ synced }
         ensures noted { self.new.sync_failed ≡ (self.old.sync_failed || is_err synced) }
         ensures names { self.new.names_synced ≡ self.old.names_synced }
+        ensures remembered { Remembers self.old self.new }
     {
         self.sync_failed = self.sync_failed || synced.is_err();
         synced

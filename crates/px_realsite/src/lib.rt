@@ -2,10 +2,10 @@
 //!
 //! This is the trusted edge. No contract can say what a file of the system holds, so `RealSite` tells no content. What is
 //! proved of it is what the trait says of every site: the bounds of its answers, and that each error was counted once and
-//! under its kind. Besides, that the file which a call works on is the one of its name, that no more files are open than
-//! may be, that none of them has the number of a standard stream, and that no sync is answered as done after one that
-//! failed. That the folder then is what the disk model says rests on the system's calls, is argued in the comments, and is
-//! tested by px_realsite_tests.
+//! under its kind. Besides, that its folder's path is the one that was asked for and stays so, that the file which a call
+//! works on is the one of its name, that no more files are open than may be, that none of them has the number of a standard
+//! stream, and that no sync is answered as done after one that failed. That the folder then is what the disk model says
+//! rests on the system's calls, is argued in the comments, and is tested by px_realsite_tests.
 //!
 //! - `real_site`: `RealSite`, the adapter, which counts what the system refused
 //! - `folder`: the folder as a site has it: its files, its names, their syncs

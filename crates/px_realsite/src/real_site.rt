@@ -1,12 +1,13 @@
 //! A folder and standard output as a site.
-ghost use Rattle.std.specs.Prelude.{◌≡◌, ◌≢◌, ◌↔◌, [], IfOk, OnOk, IsErrOf, IsTrue};
+ghost use Rattle.std.specs.Prelude.{◌≡◌, ◌≢◌, ◌≤◌, ◌+◌, ◌↔◌, [], length, IfOk, IfSome, OnOk, IsErrOf, IsTrue};
 ghost use Rattle.std.specs.IoError.{error_kind};
 ghost use Rattle.px_site.specs.Cause.{Counted, TellCounted};
 ghost use Rattle.px_site.specs.Disk.{at_rest};
+ghost use Rattle.px_site.specs.State.{IsListed};
 ghost use Rattle.px_site.specs.Tally.{counts_of};
 
 use crate::folder::Folder;
-use px_site::{Fault, FileName, Site, SiteError, Tally};
+use px_site::{Fault, FileName, LONGEST_FILE, Site, SiteError, Tally};
 use std::alloc::AllocError;
 use std::fs::File;
 use std::io::{self, ErrorKind};
@@ -29,10 +30,12 @@ pub struct RealSite<R> {
 
 impl<R: Files<File = File> + Print + AllocGlobal + Clone + Drop> RealSite<R> {
     ghost use Rattle.px_site.specs.Cause.{no_counts};
-    ghost use Rattle.px_realsite.specs.RealSite.{counted};
+    ghost use Rattle.px_realsite.specs.Path.{path_or_current};
+    ghost use Rattle.px_realsite.specs.RealSite.{counted, folder_path};
 
     /// A site over the folder of this path, the current one where the path is empty. It touches nothing yet.
     pub fn new(rt: R, folder: &str) -> Result<RealSite<R>, AllocError>
+        ensures over { IfOk result (λ site. folder_path site ≡ path_or_current folder.now) }
         ensures nothing_counted { IfOk result (λ site. counted site ≡ no_counts) }
     {
         let folder = Folder::new(rt.alloc(), folder)?;
@@ -45,7 +48,7 @@ impl<R: Files<File = File> + Print + AllocGlobal + Clone + Drop> RealSite<R> {
 }
 
 impl<R: Files<File = File> + Print + AllocGlobal + Clone + Drop> Site for RealSite<R> {
-    ghost use Rattle.px_realsite.specs.RealSite.{counted, HasDurableNames};
+    ghost use Rattle.px_realsite.specs.RealSite.{counted, folder_path, HasDurableNames};
 
     ghost tells = { ⊥ };
 
@@ -55,28 +58,43 @@ impl<R: Files<File = File> + Print + AllocGlobal + Clone + Drop> Site for RealSi
 
     ghost reads_image = { λ tells. absurd tells };
 
-    fn len(&mut self, file: FileName) -> Result<u64, SiteError> {
+    fn len(&mut self, file: FileName) -> Result<u64, SiteError>
+        ensures bound { IfOk result (λ len. len ≤ LONGEST_FILE) }
+        ensures counted { Counted Fault.Read (counted self.old) (counted self.new) result }
+        ensures same_folder { folder_path self.new ≡ folder_path self.old }
+    {
         match self.folder.len(&self.rt, file) {
             Ok(len) => Ok(len),
             Err(error) => refuse(&mut self.tally, Fault::Read, &error),
         }
     }
 
-    fn read_at(&mut self, file: FileName, place: u64, buf: &mut [u8]) -> Result<usize, SiteError> {
+    fn read_at(&mut self, file: FileName, place: u64, buf: &mut [u8]) -> Result<usize, SiteError>
+        ensures bound { IfOk result (λ n. n ≤ length buf.new) }
+        ensures counted { Counted Fault.Read (counted self.old) (counted self.new) result }
+        ensures same_folder { folder_path self.new ≡ folder_path self.old }
+    {
         match self.folder.read_at(&self.rt, file, place, buf) {
             Ok(count) => Ok(count),
             Err(error) => refuse(&mut self.tally, Fault::Read, &error),
         }
     }
 
-    fn write_at(&mut self, file: FileName, place: u64, bytes: &[u8]) -> Result<(), SiteError> {
+    fn write_at(&mut self, file: FileName, place: u64, bytes: &[u8]) -> Result<(), SiteError>
+        requires { place + length bytes.now ≤ LONGEST_FILE }
+        ensures counted { Counted Fault.Write (counted self.old) (counted self.new) result }
+        ensures same_folder { folder_path self.new ≡ folder_path self.old }
+    {
         match self.folder.write_at(&self.rt, file, place, bytes) {
             Ok(()) => Ok(()),
             Err(error) => refuse(&mut self.tally, Fault::Write, &error),
         }
     }
 
-    fn cut(&mut self, file: FileName, len: u64) -> Result<(), SiteError> {
+    fn cut(&mut self, file: FileName, len: u64) -> Result<(), SiteError>
+        ensures counted { Counted Fault.Write (counted self.old) (counted self.new) result }
+        ensures same_folder { folder_path self.new ≡ folder_path self.old }
+    {
         match self.folder.cut(&self.rt, file, len) {
             Ok(()) => Ok(()),
             Err(error) => refuse(&mut self.tally, Fault::Write, &error),
@@ -85,6 +103,7 @@ impl<R: Files<File = File> + Print + AllocGlobal + Clone + Drop> Site for RealSi
 
     fn sync(&mut self, file: FileName) -> Result<(), SiteError>
         ensures counted { Counted Fault.Sync (counted self.old) (counted self.new) result }
+        ensures same_folder { folder_path self.new ≡ folder_path self.old }
         ensures durable { OnOk result (HasDurableNames self.new) }
     {
         match self.folder.sync(&self.rt, file) {
@@ -93,21 +112,31 @@ impl<R: Files<File = File> + Print + AllocGlobal + Clone + Drop> Site for RealSi
         }
     }
 
-    fn remove(&mut self, file: FileName) -> Result<(), SiteError> {
+    fn remove(&mut self, file: FileName) -> Result<(), SiteError>
+        ensures counted { Counted Fault.Remove (counted self.old) (counted self.new) result }
+        ensures same_folder { folder_path self.new ≡ folder_path self.old }
+    {
         match self.folder.remove(&self.rt, file) {
             Ok(()) => Ok(()),
             Err(error) => refuse(&mut self.tally, Fault::Remove, &error),
         }
     }
 
-    fn list(&mut self, after: Option<FileName>) -> Result<Option<FileName>, SiteError> {
+    fn list(&mut self, after: Option<FileName>) -> Result<Option<FileName>, SiteError>
+        ensures bound { IfOk result (λ next. IfSome next (IsListed after)) }
+        ensures counted { Counted Fault.List (counted self.old) (counted self.new) result }
+        ensures same_folder { folder_path self.new ≡ folder_path self.old }
+    {
         match self.folder.list(&self.rt, after) {
             Ok(found) => Ok(found),
             Err(error) => refuse(&mut self.tally, Fault::List, &error),
         }
     }
 
-    fn tell(&mut self, bytes: &[u8]) -> Result<(), SiteError> {
+    fn tell(&mut self, bytes: &[u8]) -> Result<(), SiteError>
+        ensures counted { TellCounted (counted self.old) (counted self.new) result }
+        ensures same_folder { folder_path self.new ≡ folder_path self.old }
+    {
         match write_all(&self.rt, bytes) {
             Ok(()) => Ok(()),
             Err(error) => refuse_tell(&mut self.tally, &error),
