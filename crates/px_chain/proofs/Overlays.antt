@@ -83,11 +83,11 @@ laid_slots table (first ∷ others) n =
     (cases_eq n first.number))
     (laid_slots over others n)
 
-laid_header : (table : Table) (slots : List Linked) → (laid table (map content_of slots)).header ≡ table.header
+pub laid_header : (table : Table) (slots : List Linked) → (laid table (map content_of slots)).header ≡ table.header
 laid_header table [] = refl
 laid_header table (first ∷ others) = laid_header (overlaid table (content_of first)) others
 
-laid_pointers : (table : Table) (slots : List Linked) (q : ℕ) → (laid table (map content_of slots)).pointer q ≡ table.pointer q
+pub laid_pointers : (table : Table) (slots : List Linked) (q : ℕ) → (laid table (map content_of slots)).pointer q ≡ table.pointer q
 laid_pointers table [] q = refl
 laid_pointers table (first ∷ others) q = laid_pointers (overlaid table (content_of first)) others q
 
@@ -188,7 +188,7 @@ header_of_half : (table half : Table) (before gone behind : List ℕ) → (laid 
 header_of_half table half [] gone behind = refl
 header_of_half table half (x ∷ xs) gone behind = refl
 
-row_of_gone : (table : Table) (row : ℕ) (gone : List ℕ) → gone ≢ [] → ((n : ℕ) → Contains gone n → (table.slot n).row ≡ row) → row_of (chain_of table gone) ≡ row
+pub row_of_gone : (table : Table) (row : ℕ) (gone : List ℕ) → gone ≢ [] → ((n : ℕ) → Contains gone n → (table.slot n).row ≡ row) → row_of (chain_of table gone) ≡ row
 row_of_gone table row [] some rows = absurd (some refl)
 row_of_gone table row (x ∷ xs) some rows = rows x (contains_first x xs)
 

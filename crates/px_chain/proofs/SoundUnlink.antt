@@ -1,7 +1,7 @@
 -- Cells of an unlink, laid over sound cells, are sound.
-use Rattle.std.proofs.Common.{◌≡◌, ◌≢◌, ℕ, ◌+◌, ◌≤◌, cond, IsTrue, List, [], ◌∷◌, ◌++◌, map, take, drop, length, refl, sym, ap, subst, ◌∙◌, arith, inl, inr, ⊎_elim}
+use Rattle.std.proofs.Common.{◌≡◌, ◌≢◌, ◌↔◌, ℕ, ◌+◌, ◌≤◌, true, false, cond, IsTrue, List, [], ◌∷◌, ◌++◌, map, take, drop, length, refl, sym, ap, subst, ◌∙◌, arith, inl, inr, ⊎_elim}
 use Rattle.std.specs.Prelude.{Contains, ◌⊎◌}
-use Rattle.std.proofs.lemmas.Bool.{cases_eq, eq-eqb, ne_eqb, false≢true}
+use Rattle.std.proofs.lemmas.Bool.{cases_eq, eq-eqb, ne_eqb, false≢true, true≢false}
 use Rattle.std.specs.List.{take-map, drop-map}
 use Rattle.std.proofs.lemmas.List.{take-append-drop, length-take-le, length-drop}
 use Rattle.std.proofs.lemmas.List.Elements.{All-contains, Contains-append_left, Contains-append_right, Contains-append_cases}
@@ -12,7 +12,7 @@ use Rattle.px_free.specs.Places.{Places, slots_of, rows_of}
 use Rattle.px_chain.specs.Table.{Table, laid}
 use Rattle.px_chain.specs.Sound.{Walks, IsApart, IsPlace, IsFreeList, IsSlot, IsFreeSlot, next_slot, IsFreeRow, IsUsedRow, head_of, key_of, IsVariation, IsChain, Layout, IsSound}
 use Rattle.px_chain.specs.declared.chain.Linked.{Linked}
-use Rattle.px_chain.specs.Links.{IsStored, Parts, is_empty, parts_of, chain_of, unlink_cells, unlinked, IsSameVariation}
+use Rattle.px_chain.specs.Links.{IsStored, Parts, is_empty, is_emptied, parts_of, chain_of, unlink_cells, unlinked, IsSameVariation}
 use Rattle.px_chain.proofs.Walks.{all_from, contains_first, contains_other, contains_cases, contains_none, splits, walk_same, walk_split, walk_join}
 use Rattle.px_chain.proofs.Forms.{freed_form, relinked_form}
 use Rattle.px_chain.proofs.Places.{apart_walk, apart_front, apart_rest, apart_both, head_or, last_of, last_in, none_or_some, walk_linked, walk_relinked, walk_head}
@@ -499,3 +499,39 @@ pub part_kept : (short : ℕ) (table : Table) (layout : Layout) (row from count 
 part_kept short table layout row from count slot sound used some within stays =
     subst (λ (p : Parts). IsSameVariation (table.slot slot) ((laid table (unlink_cells table.header p)).slot slot)) (sym (parts_split table (layout.chain row) from count))
     (kept (unlinking short table layout row from count sound used some within) slot stays).all
+
+none_emptied : (table : Table) (before gone behind : List ℕ) → (before ≡ [] → behind ≡ [] → ⊥) → is_emptied (parts_at table before gone behind) ≡ false
+none_emptied table [] gone [] stays = absurd (stays refl refl)
+none_emptied table [] gone (y ∷ ys) stays = refl
+none_emptied table (x ∷ xs) gone behind stays = refl
+
+rows_left : (u : Unlinking) (q : ℕ) → IsUsedRow u.other q ↔ (IsUsedRow u.table q × (q ≡ u.row → is_emptied (parts_at u.table u.before u.gone u.behind) ≡ false))
+rows_left u q = (
+  λ used. (old_used u q used, λ e. none_emptied u.table u.before u.gone u.behind (row_used u (subst (λ (p : ℕ). IsUsedRow u.other p) e used))),
+  λ was. ⊎_elim
+      (λ (e : q ≡ u.row). subst (λ (p : ℕ). IsUsedRow u.other p) (sym e) (row_stays u (λ none end.
+      true≢false (sym (both_emptied u.table u.before u.gone u.behind none end) ∙ was.1 e))))
+      (λ (ne : q ≢ u.row). else_used u q ne was.0)
+      (cases_eq q u.row),
+)
+  where
+    both_emptied : (table : Table) (before gone behind : List ℕ) → before ≡ [] → behind ≡ [] → is_emptied (parts_at table before gone behind) ≡ true
+    both_emptied table [] gone [] none end = refl
+    both_emptied table [] gone (y ∷ ys) none end = cc
+    both_emptied table (x ∷ xs) gone behind none end = cc
+
+pub part_rows : (short : ℕ) (table : Table) (layout : Layout) (row from count other : ℕ) → IsSound short table layout → IsUsedRow table row
+    → 1 ≤ count → from + count ≤ length (layout.chain row)
+    → IsUsedRow (laid table (unlink_cells table.header (parts_of (chain_of table (layout.chain row)) from count))) other
+    ↔ (IsUsedRow table other × (other ≡ row → is_emptied (parts_of (chain_of table (layout.chain row)) from count) ≡ false))
+part_rows short table layout row from count other sound used some within =
+    subst (λ (p : Parts). IsUsedRow (laid table (unlink_cells table.header p)) other ↔ (IsUsedRow table other × (other ≡ row → is_emptied p ≡ false)))
+    (sym (parts_split table (layout.chain row) from count)) (rows_left (unlinking short table layout row from count sound used some within) other)
+
+pub part_keys : (short : ℕ) (table : Table) (layout : Layout) (row from count other : ℕ) → IsSound short table layout → IsUsedRow table row
+    → 1 ≤ count → from + count ≤ length (layout.chain row)
+    → IsUsedRow (laid table (unlink_cells table.header (parts_of (chain_of table (layout.chain row)) from count))) other
+    → key_of (laid table (unlink_cells table.header (parts_of (chain_of table (layout.chain row)) from count))) other ≡ key_of table other
+part_keys short table layout row from count other sound used some within =
+    subst (λ (p : Parts). IsUsedRow (laid table (unlink_cells table.header p)) other → key_of (laid table (unlink_cells table.header p)) other ≡ key_of table other)
+    (sym (parts_split table (layout.chain row) from count)) (all_keys (unlinking short table layout row from count sound used some within) other)

@@ -2,4 +2,5 @@ pub mod Cells
 pub mod Links
 pub mod Sound
 pub mod Table
+pub mod Unlinked
 pub mod Visible

@@ -1,7 +1,8 @@
 -- What a link and an unlink change of the cells, and of the places that stand in chains and on free lists.
-use Rattle.std.specs.Prelude.{◌≡◌, ◌≢◌, ◌<◌, All, IsTrue, ℕ, Bool, true, false, ◌&&◌, nat_le, List, [], ◌∷◌, ◌++◌, ◌==◌, take, drop, map, fold, insert, if◌then◌else◌}
+use Rattle.std.specs.Prelude.{◌≡◌, ◌≢◌, ◌<◌, All, IsTrue, ℕ, Bool, true, false, ◌&&◌, nat_le, List, [], ◌∷◌, ◌++◌, ◌==◌, take, drop, map, fold, insert, Option, Some, None, if◌then◌else◌}
 use Rattle.std.specs.List.{position_or_len}
 use Rattle.px_cells.specs.declared.header.Header.{Header}
+use Rattle.px_cells.specs.declared.pointer.Pointer.{Pointer}
 use Rattle.px_cells.specs.declared.slot.Slot.{Slot}
 use Rattle.px_cells.specs.declared.slot.SlotState.TheVariants.{Free}
 use Rattle.px_chain.specs.declared.chain.Linked.{Linked}
@@ -124,6 +125,10 @@ unlinked_pointer header parts =
     if is_empty parts.before then
     Content.pointer_is (row_of parts.gone) (if is_empty parts.behind then record { used = false; head = header.free_row } else record { used = true; head = first_or parts.behind 0 }) ∷ []
     else []
+
+abbrev pub pointer_content : Option (ℕ × Pointer) → List Content
+pointer_content None = []
+pointer_content (Some named) = Content.pointer_is named.0 named.1 ∷ []
 
 abbrev pub content_of : Linked → Content
 content_of linked = Content.slot_is linked.number linked.slot

@@ -1,10 +1,10 @@
-ghost use Rattle.std.specs.Prelude.{◌≡◌, ◌≤◌, ◌+◌, ℕ, List, Contains, drop, length, take};
+ghost use Rattle.std.specs.Prelude.{◌≡◌, ◌↔◌, ◌≤◌, ◌+◌, ℕ, List, Contains, drop, false, length, take};
 ghost use Rattle.px_chain.specs.declared.chain.Linked.{Linked};
 ghost use Rattle.px_cells.specs.declared.header.Header.{Header};
 ghost use Rattle.px_cells.specs.declared.slot.Slot.{Slot};
 ghost use Rattle.px_free.specs.Places.{next_place, slots_of};
-ghost use Rattle.px_chain.specs.Links.{BeginsRow, IsSameVariation, IsStored, Rise, VariesRow, chain_of, link_cells, linked, parts_of, row_taken, slot_taken, unlink_cells, unlinked, unlinked_slots};
-ghost use Rattle.px_chain.specs.Sound.{IsApart, IsLinkedAlike, IsSound, IsUsedRow, Layout, no_layout, no_places};
+ghost use Rattle.px_chain.specs.Links.{BeginsRow, IsSameVariation, IsStored, Rise, VariesRow, chain_of, is_emptied, link_cells, linked, parts_of, row_taken, slot_taken, unlink_cells, unlinked, unlinked_slots};
+ghost use Rattle.px_chain.specs.Sound.{IsApart, IsLinkedAlike, IsSound, IsUsedRow, Layout, key_of, no_layout, no_places};
 ghost use Rattle.px_chain.specs.Table.{Table, laid};
 
 /// A table without places is sound.
@@ -46,6 +46,18 @@ pub fn slots_that_stay_hold_the_same()
         → ¬ Contains (take count (drop from (layout.chain row))) slot
         → IsSameVariation (table.slot slot)
         ((laid table (unlink_cells table.header (parts_of (chain_of table (layout.chain row)) from count))).slot slot) }
+{}
+
+/// The rows after an unlink are those that have a version left, each with the key that it had.
+pub fn rows_keep_their_keys()
+    ensures rows { (short : ℕ) (table : Table) (layout : Layout) (row from count other : ℕ)
+        → IsSound short table layout → IsUsedRow table row → 1 ≤ count → from + count ≤ length (layout.chain row)
+        → IsUsedRow (laid table (unlink_cells table.header (parts_of (chain_of table (layout.chain row)) from count))) other
+        ↔ (IsUsedRow table other × (other ≡ row → is_emptied (parts_of (chain_of table (layout.chain row)) from count) ≡ false)) }
+    ensures keys { (short : ℕ) (table : Table) (layout : Layout) (row from count other : ℕ)
+        → IsSound short table layout → IsUsedRow table row → 1 ≤ count → from + count ≤ length (layout.chain row)
+        → IsUsedRow (laid table (unlink_cells table.header (parts_of (chain_of table (layout.chain row)) from count))) other
+        → key_of (laid table (unlink_cells table.header (parts_of (chain_of table (layout.chain row)) from count))) other ≡ key_of table other }
 {}
 
 /// The cells of an unlink are in the order that a change has them, each once: the slots' numbers rise. They are two more than

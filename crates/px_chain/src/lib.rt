@@ -5,7 +5,7 @@
 //! that cells stay sound is a law of its own.
 //!
 //! - `chain`: `Chain`, a chain as it was read.
-//! - `linking`, `unlinking`: `link` and `unlink`; `cut` has the chain in three parts, `cells` the cells' bytes.
+//! - `linking`, `unlinking`: `link`, and `unlink` with what it changes apart from its bytes, `Unlinked`; `cut` has the chain in three parts, `cells` the cells' bytes.
 //! - `views`: `visible`, the variation that a reader sees.
 //! - `laws`: cells of a link or an unlink, over sound cells, are sound; what sound cells are has one layout.
 //!
@@ -24,9 +24,10 @@ mod views;
 pub use chain::{Chain, Linked};
 pub use laws::{
     a_new_row_is_sound, a_new_variation_is_sound, a_place_stands_once,
-    cells_with_the_same_links_are_sound, no_cells_are_sound, slots_that_stay_hold_the_same,
-    sound_cells_have_one_layout, unlinked_cells_are_in_order, unlinked_cells_are_sound,
+    cells_with_the_same_links_are_sound, no_cells_are_sound, rows_keep_their_keys,
+    slots_that_stay_hold_the_same, sound_cells_have_one_layout, unlinked_cells_are_in_order,
+    unlinked_cells_are_sound,
 };
 pub use linking::link;
-pub use unlinking::unlink;
+pub use unlinking::{Unlinked, unlink};
 pub use views::{SlotView, visible};

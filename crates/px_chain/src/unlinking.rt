@@ -3,7 +3,7 @@ ghost use Rattle.std.specs.List.{position_or_len};
 ghost use Rattle.px_cells.specs.Form.{is_short, is_slot};
 ghost use Rattle.px_chain.specs.declared.chain.Linked.{Linked};
 ghost use Rattle.px_chain.specs.Cells.{cell_of};
-ghost use Rattle.px_chain.specs.Links.{IsStored, content_of, freed_slot, parts_of, placed, relinked, unlink_cells, unlinked_pointer, unlinked_slots};
+ghost use Rattle.px_chain.specs.Links.{IsStored, content_of, freed_slot, parts_of, placed, pointer_content, relinked, unlink_cells, unlinked_header, unlinked_pointer, unlinked_slots};
 
 use crate::cells::{header_cell, pointer_cell, slot_cell};
 use crate::chain::{Chain, Linked};
@@ -34,13 +34,59 @@ pub fn unlink(
     requires stored { All (λ linked. IsStored short linked.slot) chain.now }
     ensures { IfOk result (λ cells. cells ≡ map (cell_of table short) (unlink_cells header.now (parts_of chain.now from count))) }
 {
-    let cut = Cut::new(chain.as_slice(), from as usize, count as usize);
-    let slots = unlinked_slots(alloc, header, &cut)?;
-    let mut cells = CellList::new(alloc);
-    cells.push(header_cell(alloc, table, &cut.header(*header))?)?;
-    push_slots(&mut cells, alloc, table, slots.as_slice(), short)?;
-    push_pointer(&mut cells, alloc, table, header, &cut, short)?;
-    Ok(cells)
+    let unlinked = Unlinked::of(alloc, header, chain, from, count)?;
+    unlinked.cells(alloc, table, short)
+}
+
+/// What an unlink changes, apart from its bytes.
+#[derive(Debug, Drop)]
+pub struct Unlinked {
+    /// The header once the slots are given back, and the row pointer too where none stays.
+    pub header: Header,
+    /// The slots that change, in order of their numbers.
+    pub slots: Vec<Linked>,
+    /// The row pointer and its number, where no slot stays in front of those that go.
+    pub pointer: Option<(u32, Pointer)>,
+}
+
+impl Unlinked {
+    ghost use Rattle.px_chain.specs.Unlinked.{contents_of};
+
+    /// What `unlink` with these arguments changes. It fails only for want of memory.
+    pub fn of(
+        alloc: Global,
+        header: &Header,
+        chain: &Chain,
+        from: u32,
+        count: u32,
+    ) -> Result<Unlinked, AllocError>
+        requires { from + count ≤ length chain.now }
+        ensures header { IfOk result (λ unlinked. unlinked.header ≡ unlinked_header header.now (parts_of chain.now from count)) }
+        ensures slots { IfOk result (λ unlinked. unlinked.slots.items ≡ unlinked_slots header.now (parts_of chain.now from count)) }
+        ensures pointer { IfOk result (λ unlinked. pointer_content unlinked.pointer ≡ unlinked_pointer header.now (parts_of chain.now from count)) }
+    {
+        let cut = Cut::new(chain.as_slice(), from as usize, count as usize);
+        Ok(Unlinked {
+            header: cut.header(*header),
+            slots: unlinked_slots(alloc, header, &cut)?,
+            pointer: pointer_of(header, &cut),
+        })
+    }
+
+    /// The cells of these changes. It fails only for want of memory.
+    pub fn cells(&self, alloc: Global, table: u8, short: u32) -> Result<CellList, AllocError>
+        requires short { IsTrue (is_short short) }
+        requires form { All (λ linked. IsTrue (is_slot short linked.slot)) self.now.slots.items }
+        ensures { IfOk result (λ cells. cells ≡ map (cell_of table short) (contents_of self.now)) }
+    {
+        let mut cells = CellList::new(alloc);
+        cells.push(header_cell(alloc, table, &self.header)?)?;
+        push_slots(&mut cells, alloc, table, self.slots.as_slice(), short)?;
+        if let Some((row, pointer)) = &self.pointer {
+            cells.push(pointer_cell(alloc, table, *row, pointer)?)?;
+        }
+        Ok(cells)
+    }
 }
 
 /// The slots that change, in order of their numbers.
@@ -134,23 +180,16 @@ fn push_slots(
     Ok(())
 }
 
-/// Appends the cell of the row pointer, where no slot stays in front of those that go.
-fn push_pointer(
-    cells: &mut CellList,
-    alloc: Global,
-    table: u8,
-    header: &Header,
-    cut: &Cut<'_>,
-    short: u32,
-) -> Result<(), AllocError>
-    ensures { OnOk result (cells.new ≡ cells.old ++ map (cell_of table short) (unlinked_pointer header.now cut.now)) }
+/// The row pointer and its number, where no slot stays in front of those that go.
+fn pointer_of(header: &Header, cut: &Cut<'_>) -> Option<(u32, Pointer)>
+    ensures { pointer_content result ≡ unlinked_pointer header.now cut.now }
 {
     if !cut.before.is_empty() {
-        return Ok(());
+        return None;
     }
     let pointer = Pointer {
         used: !cut.is_emptied(),
         head: number_or(cut.behind, header.free_row),
     };
-    cells.push(pointer_cell(alloc, table, cut.row(), &pointer)?)
+    Some((cut.row(), pointer))
 }

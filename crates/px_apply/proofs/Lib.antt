@@ -1,0 +1,5 @@
+pub mod Bytes
+pub mod Laid
+pub mod Apart
+pub mod Touched
+pub mod Steps

@@ -1,0 +1,5 @@
+pub mod Places
+pub mod Reading
+pub mod Whole
+pub mod Says
+pub mod Holds

@@ -1,0 +1,5 @@
+pub mod Held
+pub mod Keys
+pub mod Linking
+pub mod Unlinking
+pub mod Walked

@@ -1,0 +1,43 @@
+ghost use Rattle.std.specs.Prelude.{◌≡◌, ◌<◌, ◌≤◌, IfOk, MatchOption};
+ghost use Rattle.px_chain.specs.Links.{chain_of};
+ghost use Rattle.px_chain.specs.Sound.{IsUsedRow, Layout};
+ghost use Rattle.px_tables.specs.Held.{HasLayout, slot_at, table_of};
+ghost use Rattle.px_tables.specs.Keys.{HasNoRow, IsRowOf};
+
+use super::Table;
+use crate::versions::Versions;
+use px_cells::{Header, Slot};
+
+impl Table {
+    pub fn header(&self) -> Header
+        ensures { result ≡ self.now.cells.header }
+    {
+        self.header
+    }
+
+    /// The row pointer of the row with this key. None exactly where there is no such row.
+    pub fn row_of(&self, key: &[u8]) -> Option<u32>
+        ensures { MatchOption result (HasNoRow (table_of self.now.cells) key.now) (λ row. IsRowOf (table_of self.now.cells) key.now row) }
+    {
+        self.keys.row_of(key)
+    }
+
+    /// The slot with this number.
+    pub fn slot(&self, number: u32) -> &Slot
+        requires { number ≤ self.now.cells.header.slots }
+        ensures { result.now ≡ (table_of self.now.cells).slot number }
+    {
+        &self.slots[number as usize]
+    }
+
+    /// The versions of a row, the newest first.
+    pub fn versions(&self, row: u32) -> Versions<'_>
+        requires { IsUsedRow (table_of self.now.cells) row }
+        ensures { (layout : Layout) → HasLayout self.now.cells layout → result ≡ chain_of (table_of self.now.cells) (layout.chain row) }
+    {
+        Versions {
+            slots: self.slots.as_slice(),
+            number: self.pointers[row as usize].head,
+        }
+    }
+}
