@@ -1,0 +1,9 @@
+pub mod Ended
+pub mod Examples
+pub mod Horizon
+pub mod Keeping
+pub mod Looking
+pub mod Moving
+pub mod Reading
+pub mod Standings
+pub mod Sweeping

@@ -1,0 +1,8 @@
+pub mod Adding
+pub mod Agreeing
+pub mod Fronting
+pub mod Laying
+pub mod Holding
+pub mod Small
+pub mod Numbering
+pub mod Writing

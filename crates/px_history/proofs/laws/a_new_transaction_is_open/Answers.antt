@@ -1,0 +1,17 @@
+use Rattle.px_history.specs.Told.{told_by}
+use Rattle.px_history.proofs.Adding.{past_untold}
+use Rattle.px_history.proofs.Agreeing.{history_agrees, untold_none, untold_open}
+use Rattle.px_history.proofs.Writing.{stays_open}
+use Rattle.px_history.proofs.laws.a_new_transaction_is_open.Goals as goal
+
+pub returns-clause-is_open : goal.returns-clause-is_open
+returns-clause-is_open c = λ short steps store xn h untold. untold_open short (told_by steps) store xn (history_agrees short steps store h) untold
+
+pub returns-clause-no_versions : goal.returns-clause-no_versions
+returns-clause-no_versions c = λ short steps store xn t row h untold used. untold_none short (told_by steps) store xn t row (history_agrees short steps store h) untold used
+
+pub returns-clause-past_all : goal.returns-clause-past_all
+returns-clause-past_all c = past_untold
+
+pub returns-clause-stays : goal.returns-clause-stays
+returns-clause-stays c = stays_open

@@ -1,0 +1,7 @@
+pub mod Store
+pub mod Steps
+pub mod Writers
+pub mod Told
+pub mod Written
+pub mod Fitting
+pub mod Example

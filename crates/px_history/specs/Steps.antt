@@ -1,0 +1,110 @@
+-- The changes of a log as steps of a store: which may follow, and what they leave.
+use Rattle.std.specs.Prelude.{◌≡◌, ◌≢◌, ◌⊎◌, ℕ, ◌+◌, ◌≤◌, ◌==◌, Bool, not, false, ◌&&◌, ◌||◌, List, [], ◌∷◌, length, fold, if◌then◌else◌}
+use Rattle.std.specs.List.{list_any}
+use Rattle.px_cells.specs.declared.header.Header.{Header}
+use Rattle.px_cells.specs.declared.slot.Slot.{Slot}
+use Rattle.px_chain.specs.Links.{BeginsRow, VariesRow, IsStored, linked, row_taken, slot_taken}
+use Rattle.px_chain.specs.Sound.{IsUsedRow, Layout}
+use Rattle.px_chain.specs.Table.{Table}
+use Rattle.px_shown.specs.Changes.{layouts_unlinked, left_of, taken_slot, with_link, with_unlink}
+use Rattle.px_shown.specs.Shown.{done_with, row_shown}
+use Rattle.px_shown.specs.Tables.{with_layout}
+use Rattle.px_shown.specs.Writes.{AreInFront, HasNoneOf}
+use Rattle.px_history.specs.Store.{Store, IsOpen, nothing, versions_of, versions_from}
+
+pub data Step : Type 0 where
+  -- a version is linked in this table, whose header is then this one
+  put : (t : ℕ) → Header → Slot → Step
+  commit : (xn number : ℕ) → Step
+  rollback : (xn : ℕ) → Step
+  -- of a row's chain so many versions go, from a place on
+  unlink : (t row from count : ℕ) → Step
+
+-- ---- what may follow
+
+-- a transaction that may still commit wrote a version: the first of a row, or another one
+pub record MayPut (short : ℕ) (store : Store) (t : ℕ) (header : Header) (slot : Slot) : Type 0 where
+  pub stored : IsStored short slot
+  pub writer : IsOpen store slot.xn
+  pub link : BeginsRow (store.tables t) header slot ⊎ VariesRow (store.tables t) header slot
+
+-- what the transaction wrote stands in front of all that is done
+pub record MayCommit (store : Store) (xn : ℕ) : Type 0 where
+  pub writer : IsOpen store xn
+  pub in_front : AreInFront store.done xn store.tables store.layouts
+
+-- what is left of the chain shows what the whole of it showed
+pub record MayUnlink (store : Store) (t row from count : ℕ) : Type 0 where
+  pub used : IsUsedRow (store.tables t) row
+  pub some : 1 ≤ count
+  pub within : from + count ≤ length ((store.layouts t).chain row)
+  pub same : row_shown t store.done (left_of (versions_of store t row) from count) ≡ row_shown t store.done (versions_of store t row)
+
+-- the step may follow
+abbrev pub IsStep : (short : ℕ) → Store → Step → Type 0
+IsStep short store (put t header slot) = MayPut short store t header slot
+IsStep short store (commit xn number) = MayCommit store xn
+IsStep short store (rollback xn) = store.done xn ≡ false
+IsStep short store (unlink t row from count) = MayUnlink store t row from count
+
+-- ---- what it leaves
+
+-- a version that leads to no older one begins a row
+abbrev pub layout_linked : Table → Layout → Slot → Layout
+layout_linked table layout slot =
+    linked (if slot.next == 0 then row_taken (slot_taken layout) else slot_taken layout) (taken_slot table) slot.row
+
+abbrev pub after_put : Store → (t : ℕ) → Header → Slot → Store
+after_put store t header slot = record store {
+  tables = with_link store.tables t header slot;
+  layouts = with_layout store.layouts t (layout_linked (store.tables t) (store.layouts t) slot);
+}
+
+abbrev pub after_commit : Store → (xn : ℕ) → Store
+after_commit store xn = record store { done = done_with xn store.done }
+
+abbrev pub after_rollback : Store → (xn : ℕ) → Store
+after_rollback store xn = record store { over = λ number. (number == xn) || store.over number }
+
+-- a version of it is among these
+abbrev pub has_one_of : (xn : ℕ) → List Slot → Bool
+has_one_of xn slots = list_any (λ slot. slot.xn == xn) slots
+
+-- who isn't done and loses a version is over
+abbrev pub over_without : Store → (gone : List Slot) → ℕ → Bool
+over_without store gone = λ number. store.over number || (not (store.done number) && has_one_of number gone)
+
+abbrev pub after_unlink : Store → (t row from count : ℕ) → Store
+after_unlink store t row from count = record store {
+  tables = with_unlink store.tables store.layouts t row from count;
+  layouts = layouts_unlinked store.layouts t row from count;
+  over = over_without store (versions_from store t row from count);
+}
+
+abbrev pub after_step : Store → Step → Store
+after_step store (put t header slot) = after_put store t header slot
+after_step store (commit xn number) = after_commit store xn
+after_step store (rollback xn) = after_rollback store xn
+after_step store (unlink t row from count) = after_unlink store t row from count
+
+-- the step doesn't end the transaction, nor takes a version from it
+abbrev pub LeavesOpen : (xn : ℕ) → Store → Step → Type 0
+LeavesOpen xn store (put t header slot) = Unit {0}
+LeavesOpen xn store (commit by number) = by ≢ xn
+LeavesOpen xn store (rollback by) = by ≢ xn
+LeavesOpen xn store (unlink t row from count) = HasNoneOf xn (versions_from store t row from count)
+
+-- ---- steps in a row
+
+abbrev pub after_steps : Store → List Step → Store
+after_steps store steps = fold after_step store steps
+
+-- each may follow those before it
+abbrev pub AreSteps : (short : ℕ) → Store → List Step → Type 0
+AreSteps short store [] = Unit {0}
+AreSteps short store (step ∷ steps) = IsStep short store step × AreSteps short (after_step store step) steps
+
+-- the steps lead from nothing to the store
+pub record History (short : ℕ) (steps : List Step) (store : Store) : Type 0 where
+  pub follow : AreSteps short nothing steps
+  pub lead : store ≡ after_steps nothing steps

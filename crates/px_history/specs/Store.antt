@@ -1,0 +1,43 @@
+-- A store's tables as a front of its log has them, and what became of its transactions.
+use Rattle.std.specs.Prelude.{◌≡◌, ℕ, Bool, false, List, [], take, drop}
+use Rattle.px_cells.specs.declared.pointer.Pointer.{Pointer}
+use Rattle.px_cells.specs.declared.slot.Slot.{Slot}
+use Rattle.px_cells.specs.declared.slot.SlotState.TheVariants.{Free}
+use Rattle.px_chain.specs.Sound.{no_layout, no_places}
+use Rattle.px_chain.specs.Table.{Table}
+use Rattle.px_shown.specs.Shown.{Done}
+use Rattle.px_shown.specs.Tables.{Tables, Layouts, slots_of_row}
+
+-- Its tables and which places stand in their chains; which transactions are done; and which are over, and never will be done.
+pub record Store : Type 0 where
+  pub tables : Tables
+  pub layouts : Layouts
+  pub done : Done
+  pub over : ℕ → Bool
+
+-- it may still commit
+pub record IsOpen (store : Store) (xn : ℕ) : Type 0 where
+  pub undone : store.done xn ≡ false
+  pub not_over : store.over xn ≡ false
+
+abbrev pub unused_slot : Slot
+unused_slot = record { state = Free; xn = 0; next = 0; row = 0; tag = 0; total = 0; log = 0; place = 0; key = []; short = [] }
+
+abbrev pub unused_pointer : Pointer
+unused_pointer = record { used = false; head = 0 }
+
+-- a table of which no place was ever used
+abbrev pub unused_table : Table
+unused_table = record { header = no_places; slot = λ n. unused_slot; pointer = λ n. unused_pointer }
+
+-- the store of a log without changes
+abbrev pub nothing : Store
+nothing = record { tables = λ t. unused_table; layouts = λ t. no_layout; done = λ xn. false; over = λ xn. false }
+
+-- the versions of a row, the newest first
+abbrev pub versions_of : Store → (t row : ℕ) → List Slot
+versions_of store t row = slots_of_row (store.tables t) (store.layouts t) row
+
+-- so many of them, from a place on
+abbrev pub versions_from : Store → (t row from count : ℕ) → List Slot
+versions_from store t row from count = take count (drop from (versions_of store t row))

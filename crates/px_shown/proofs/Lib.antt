@@ -1,0 +1,10 @@
+pub mod Keys
+pub mod Firsts
+pub mod Fronts
+pub mod Told
+pub mod Rows
+pub mod Changes
+pub mod Showing
+pub mod Writing
+pub mod Unlinking
+pub mod FirstRow
