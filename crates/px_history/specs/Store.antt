@@ -1,9 +1,9 @@
 -- A store's tables as a front of its log has them, and what became of its transactions.
-use Rattle.std.specs.Prelude.{◌≡◌, ℕ, Bool, false, List, [], take, drop}
+use Rattle.std.specs.Prelude.{◌≡◌, ℕ, Bool, true, false, List, [], ◌∷◌, take, drop}
 use Rattle.px_cells.specs.declared.pointer.Pointer.{Pointer}
 use Rattle.px_cells.specs.declared.slot.Slot.{Slot}
-use Rattle.px_cells.specs.declared.slot.SlotState.TheVariants.{Free}
-use Rattle.px_chain.specs.Sound.{no_layout, no_places}
+use Rattle.px_cells.specs.declared.slot.SlotState.TheVariants.{Free, Row}
+use Rattle.px_chain.specs.Sound.{IsUsedRow, no_layout, no_places}
 use Rattle.px_chain.specs.Table.{Table}
 use Rattle.px_shown.specs.Shown.{Done}
 use Rattle.px_shown.specs.Tables.{Tables, Layouts, slots_of_row}
@@ -41,3 +41,14 @@ versions_of store t row = slots_of_row (store.tables t) (store.layouts t) row
 -- so many of them, from a place on
 abbrev pub versions_from : Store → (t row from count : ℕ) → List Slot
 versions_from store t row from count = take count (drop from (versions_of store t row))
+
+-- one version, which is done and a row
+pub record IsOneRow (done : Done) (slots : List Slot) : Type 0 where
+  pub slot : Slot
+  pub alone : slots ≡ slot ∷ []
+  pub its_done : done slot.xn ≡ true
+  pub here : slot.state ≡ Row
+
+-- and so in each chain: nothing is left to tidy
+pub record IsTidied (store : Store) : Type 0 where
+  pub each : (t row : ℕ) → IsUsedRow (store.tables t) row → IsOneRow store.done (versions_of store t row)
