@@ -11,7 +11,7 @@ loop-cell-preserved c =
     let i = c.loop-cell.cell-index in
     let below : i < length cells = omega (arith, ap length c.as_slice-cell-items.ensures, c.loop-cell-test.true) in
     let is : c.cell-item.result ≡ get_or cells i c.cell-item.result =
-      c.cell-item.is ∙ ap (λ (l : List Cell). get_or l i c.cell-item.result) c.as_slice-cell-items.ensures in
+    c.cell-item.is ∙ ap (λ (l : List Cell). get_or l i c.cell-item.result) c.as_slice-cell-items.ensures in
     c.in_ok-put.ensures
     ∙ ap (λ (p : Places). over p c.cell-item.result) c.loop-cell.invariant
     ∙ ap (over (laid_over (places c.args.self) (take i cells))) is
