@@ -2,9 +2,10 @@
 //!
 //! `Source` is the trait that scripts are read by. Its contract has the bytes that are left, where the source tells
 //! them, and how many reads failed. `MemSource` has its bytes in memory and fails where it is told to; `StdinSource`
-//! stands over standard input and tells no bytes.
+//! stands over standard input, tells no bytes, and counts what it asks of the system.
 //!
-//! specs/: `Source` (what a read does, and when it may fail), `Memory` (a source in memory).
+//! specs/: `Source` (what a read does, and when it may fail), `Memory` (a source in memory), `Asked` (what was asked of one
+//! that tells no bytes).
 #![tactic(auto)]
 
 mod mem_source;
