@@ -4,7 +4,7 @@ use Rattle.std.proofs.lemmas.Grind.{flat_map-append, fold-append}
 use Rattle.std.proofs.lemmas.List.{append-nil, take-append-drop, take_at}
 use Rattle.px_change.specs.declared.change.Change.{Change}
 use Rattle.px_xlog.specs.declared.change.Change.{Change as Told}
-use Rattle.px_history.specs.Store.{Store, nothing}
+use Rattle.px_history.specs.Store.{Store}
 use Rattle.px_history.specs.Steps.{AreSteps, History, IsStep, Step, after_step, after_steps}
 use Rattle.px_history.specs.Told.{told, told_by}
 use Rattle.px_history.specs.Written.{change_of, changes_of}
@@ -16,9 +16,9 @@ front_follows short store steps zero follow = tt
 front_follows short store [] (suc count) follow = tt
 front_follows short store (step ∷ steps) (suc count) follow = (follow.0, front_follows short (after_step store step) steps count follow.1)
 
-pub front_history : (short : ℕ) (steps : List Step) (store : Store) (count : ℕ) → History short steps store
-    → History short (take count steps) (after_steps nothing (take count steps))
-front_history short steps store count h = record { follow = front_follows short nothing steps count h.follow; lead = refl }
+pub front_history : (short : ℕ) (base store : Store) (steps : List Step) (count : ℕ) → History short base steps store
+    → History short base (take count steps) (after_steps base (take count steps))
+front_history short base store steps count h = record { follow = front_follows short base steps count h.follow; lead = refl }
 
 pub front_changes : (short : ℕ) (store : Store) (steps : List Step) (count : ℕ) → changes_of short store (take count steps) ≡ take count (changes_of short store steps)
 front_changes short store steps zero = refl
@@ -35,19 +35,19 @@ front_told steps count =
 
 -- ---- one step more
 
-pub no_steps : (short : ℕ) → History short [] nothing
-no_steps short = record { follow = tt; lead = refl }
+pub no_steps : (short : ℕ) (base : Store) → History short base [] base
+no_steps short base = record { follow = tt; lead = refl }
 
 follow_more : (short : ℕ) (store : Store) (steps : List Step) (step : Step) → AreSteps short store steps → IsStep short (after_steps store steps) step
     → AreSteps short store (steps ++ step ∷ [])
 follow_more short store [] step follow may = (may, tt)
 follow_more short store (first ∷ steps) step follow may = (follow.0, follow_more short (after_step store first) steps step follow.1 may)
 
-pub history_more : (short : ℕ) (steps : List Step) (store : Store) (step : Step) → History short steps store → IsStep short store step
-    → History short (steps ++ step ∷ []) (after_step store step)
-history_more short steps store step h may = record {
-  follow = follow_more short nothing steps step h.follow (subst (λ (s : Store). IsStep short s step) h.lead may);
-  lead = ap (λ (s : Store). after_step s step) h.lead ∙ sym (fold-append after_step nothing steps (step ∷ []));
+pub history_more : (short : ℕ) (base store : Store) (steps : List Step) (step : Step) → History short base steps store → IsStep short store step
+    → History short base (steps ++ step ∷ []) (after_step store step)
+history_more short base store steps step h may = record {
+  follow = follow_more short base steps step h.follow (subst (λ (s : Store). IsStep short s step) h.lead may);
+  lead = ap (λ (s : Store). after_step s step) h.lead ∙ sym (fold-append after_step base steps (step ∷ []));
 }
 
 pub told_more : (steps : List Step) (step : Step) → told_by (steps ++ step ∷ []) ≡ told_by steps ++ told step
@@ -58,7 +58,7 @@ changes_after : (short : ℕ) (store : Store) (steps : List Step) (step : Step)
 changes_after short store [] step = refl
 changes_after short store (first ∷ steps) step = ap (λ (l : List Change). change_of short store first ∷ l) (changes_after short (after_step store first) steps step)
 
-pub changes_more : (short : ℕ) (steps : List Step) (store : Store) (step : Step) → History short steps store
-    → changes_of short nothing (steps ++ step ∷ []) ≡ changes_of short nothing steps ++ change_of short store step ∷ []
-changes_more short steps store step h =
-    changes_after short nothing steps step ∙ ap (λ (s : Store). changes_of short nothing steps ++ change_of short s step ∷ []) (sym h.lead)
+pub changes_more : (short : ℕ) (base store : Store) (steps : List Step) (step : Step) → History short base steps store
+    → changes_of short base (steps ++ step ∷ []) ≡ changes_of short base steps ++ change_of short store step ∷ []
+changes_more short base store steps step h =
+    changes_after short base steps step ∙ ap (λ (s : Store). changes_of short base steps ++ change_of short s step ∷ []) (sym h.lead)

@@ -8,7 +8,7 @@ use Rattle.px_cells.specs.declared.cell.Cell.{Cell}
 use Rattle.px_chain.specs.Cells.{cell_of}
 use Rattle.px_chain.specs.Table.{Content, Table, laid, overlaid}
 use Rattle.px_shown.specs.Tables.{Tables, with_table}
-use Rattle.px_history.specs.Store.{Store, nothing}
+use Rattle.px_history.specs.Store.{Store}
 use Rattle.px_history.specs.Steps.{History, Step, after_step, after_steps}
 use Rattle.px_history.specs.Written.{cells_for, cells_in, changes_of}
 use Rattle.px_history.specs.Written.{change_of, contents_by, contents_in, contents_of, table_of}
@@ -36,9 +36,9 @@ steps_laid store (step ∷ steps) t =
     ∙ ap (λ (table : Table). laid table (contents_by t (after_step store step) steps)) (step_laid store step t)
     ∙ sym (fold-append overlaid (store.tables t) (contents_in t store step) (contents_by t (after_step store step) steps))
 
-pub history_laid : (short : ℕ) (steps : List Step) (store : Store) (t : ℕ) → History short steps store
-    → store.tables t ≡ laid (nothing.tables t) (contents_by t nothing steps)
-history_laid short steps store t h = ap (λ (s : Store). s.tables t) h.lead ∙ steps_laid nothing steps t
+pub history_laid : (short : ℕ) (base store : Store) (steps : List Step) (t : ℕ) → History short base steps store
+    → store.tables t ≡ laid (base.tables t) (contents_by t base steps)
+history_laid short base store steps t h = ap (λ (s : Store). s.tables t) h.lead ∙ steps_laid base steps t
 
 -- ---- the cells of changes
 

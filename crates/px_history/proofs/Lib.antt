@@ -1,5 +1,6 @@
 pub mod Adding
 pub mod Agreeing
+pub mod Basing
 pub mod Fronting
 pub mod Laying
 pub mod Holding

@@ -4,7 +4,7 @@ use Rattle.std.proofs.lemmas.Grind.{flat_map-append}
 use Rattle.std.proofs.lemmas.List.{take-append-drop}
 use Rattle.px_xlog.specs.declared.change.Change.{Change}
 use Rattle.px_xlog.specs.declared.change.Change.TheVariants.{Put, Commit, Rollback}
-use Rattle.px_xlog.specs.Reading.{CountsFrom, commits_in, last_commit}
+use Rattle.px_xlog.specs.Reading.{CountsFrom, last_commit}
 use Rattle.px_history.specs.Steps.{Step}
 use Rattle.px_history.specs.Told.{IsNumberedOn, last_after, told, told_by}
 
@@ -26,25 +26,23 @@ counts_before last (Put xn write ∷ changes) more counted = counts_before last 
 counts_before last (Commit xn commit ∷ changes) more counted = (counted.0, counts_before commit changes more counted.1)
 counts_before last (Rollback xn ∷ changes) more counted = counts_before last changes more counted
 
-pub step_numbered : (changes : List Change) (step : Step) → CountsFrom 0 changes → IsNumberedOn changes step → CountsFrom 0 (changes ++ told step)
-unfolding commits_in
-step_numbered changes (Step.put t header slot) counted on = counts_on 0 changes (told (Step.put t header slot)) counted tt
-step_numbered changes (Step.commit xn number) counted on = counts_on 0 changes (told (Step.commit xn number)) counted (on, tt)
-step_numbered changes (Step.rollback xn) counted on = counts_on 0 changes (told (Step.rollback xn)) counted tt
-step_numbered changes (Step.unlink t row from count) counted on = counts_on 0 changes [] counted tt
+pub step_numbered : (last : ℕ) (changes : List Change) (step : Step) → CountsFrom last changes → IsNumberedOn last changes step → CountsFrom last (changes ++ told step)
+step_numbered last changes (Step.put t header slot) counted on = counts_on last changes (told (Step.put t header slot)) counted tt
+step_numbered last changes (Step.commit xn number) counted on = counts_on last changes (told (Step.commit xn number)) counted (on, tt)
+step_numbered last changes (Step.rollback xn) counted on = counts_on last changes (told (Step.rollback xn)) counted tt
+step_numbered last changes (Step.unlink t row from count) counted on = counts_on last changes [] counted tt
 
-pub step_commits : (changes : List Change) (step : Step) → commits_in (changes ++ told step) ≡ last_after (commits_in changes) step
-unfolding commits_in
-step_commits changes (Step.put t header slot) = last_commit-append 0 changes (told (Step.put t header slot))
-step_commits changes (Step.commit xn number) = last_commit-append 0 changes (told (Step.commit xn number))
-step_commits changes (Step.rollback xn) = last_commit-append 0 changes (told (Step.rollback xn))
-step_commits changes (Step.unlink t row from count) = last_commit-append 0 changes []
+pub step_commits : (last : ℕ) (changes : List Change) (step : Step) → last_commit last (changes ++ told step) ≡ last_after (last_commit last changes) step
+step_commits last changes (Step.put t header slot) = last_commit-append last changes (told (Step.put t header slot))
+step_commits last changes (Step.commit xn number) = last_commit-append last changes (told (Step.commit xn number))
+step_commits last changes (Step.rollback xn) = last_commit-append last changes (told (Step.rollback xn))
+step_commits last changes (Step.unlink t row from count) = last_commit-append last changes []
 
-pub front_numbered : (steps : List Step) (count : ℕ) → CountsFrom 0 (told_by steps) → CountsFrom 0 (told_by (take count steps))
-front_numbered steps count counted =
+pub front_numbered : (last : ℕ) (steps : List Step) (count : ℕ) → CountsFrom last (told_by steps) → CountsFrom last (told_by (take count steps))
+front_numbered last steps count counted =
     let whole : told_by steps ≡ told_by (take count steps) ++ told_by (drop count steps) =
     sym (ap told_by (take-append-drop count steps)) ∙ flat_map-append told (take count steps) (drop count steps) in
-    counts_before 0 (told_by (take count steps)) (told_by (drop count steps)) (subst (CountsFrom 0) whole counted)
+    counts_before last (told_by (take count steps)) (told_by (drop count steps)) (subst (CountsFrom last) whole counted)
 
 few_commits : (last : ℕ) (changes : List Change) → CountsFrom last changes → last_commit last changes ≤ last + length changes
 few_commits last [] counted = omega arith
@@ -62,6 +60,5 @@ few_told (Step.commit xn number ∷ steps) = let few = few_told steps in omega (
 few_told (Step.rollback xn ∷ steps) = let few = few_told steps in omega (arith, few)
 few_told (Step.unlink t row from count ∷ steps) = let few = few_told steps in omega (arith, few)
 
-pub commits_due : (steps : List Step) → CountsFrom 0 (told_by steps) → commits_in (told_by steps) ≤ length steps
-unfolding commits_in
-commits_due steps counted = let few = few_commits 0 (told_by steps) counted in let all = few_told steps in omega (arith, few, all)
+pub commits_due : (last : ℕ) (steps : List Step) → CountsFrom last (told_by steps) → last_commit last (told_by steps) ≤ last + length steps
+commits_due last steps counted = let few = few_commits last (told_by steps) counted in let all = few_told steps in omega (arith, few, all)

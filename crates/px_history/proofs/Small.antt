@@ -1,16 +1,26 @@
--- Each step of the small history may follow those before it.
-use Rattle.std.proofs.Common.{◌≡◌, ℕ, ◌==◌, false, List, [], refl, sym, arith, inl, inr}
+-- Each step of the small history may follow those before it, and so may those of a second run.
+use Rattle.std.proofs.Common.{◌≡◌, ℕ, ◌<◌, ◌≤◌, ◌==◌, false, List, [], ◌∷◌, refl, sym, subst, arith, inl, inr}
+use Rattle.std.proofs.lemmas.Bool.{ne_eqb}
 use Rattle.std.proofs.lemmas.List.{append-nil}
-use Rattle.std.proofs.lemmas.List.Elements.{All-nil}
+use Rattle.std.proofs.lemmas.List.Elements.{All-cons, All-nil}
 use Rattle.px_cells.specs.declared.slot.Slot.{Slot}
 use Rattle.px_cells.specs.Form.{is_slot}
 use Rattle.px_chain.specs.Links.{IsStored}
-use Rattle.px_shown.specs.Example.{written_by_3}
+use Rattle.px_model.specs.declared.row.Row.{Row}
+use Rattle.px_model.specs.Rows.{key_cmp, same_key}
+use Rattle.px_shown.specs.Example.{row_with, written_by_3}
 use Rattle.px_shown.specs.Shown.{Done}
 use Rattle.px_shown.specs.Writes.{IsInFront}
-use Rattle.px_history.specs.Example.{deleted_by_4, header_with, small_history}
+use Rattle.px_history.specs.Base.{IsBase, rows_over}
+use Rattle.px_history.specs.Example.{again_by_5, deleted_by_4, header_with, second_run, small_base, small_history}
 use Rattle.px_history.specs.Store.{Store, nothing, versions_of}
 use Rattle.px_history.specs.Steps.{History, MayCommit, MayPut, MayUnlink, Step, after_step, after_steps}
+use Rattle.px_history.specs.Told.{IsUntold, told_by}
+use Rattle.px_history.specs.Writers.{IsAlone}
+use Rattle.px_history.proofs.Adding.{past_untold}
+use Rattle.px_history.proofs.Agreeing.{IsNotOf, open_later}
+use Rattle.px_history.proofs.Basing.{crashed_is_base, nothing_is_base}
+use Rattle.px_history.proofs.Writing.{base_writer, may_commit, step_writer}
 
 abbrev after_3 : Store
 after_3 = after_step nothing (Step.put 2 (header_with 1) written_by_3)
@@ -65,5 +75,49 @@ second_put = record {
 one_goes : MayUnlink rolled_back_4 2 1 0 1
 one_goes = record { used = ((omega arith, omega arith), refl); some = omega arith; within = omega arith; same = refl }
 
-pub small_is_one : History 16 small_history (after_steps nothing small_history)
+pub small_is_one : History 16 nothing small_history (after_steps nothing small_history)
 small_is_one = record { follow = (first_put, (first_commit, (second_put, (refl, (one_goes, tt))))); lead = refl }
+
+-- ---- the second run
+
+abbrev small_rows : List Row
+small_rows = row_with (97 ∷ []) ∷ []
+
+rows_are : rows_over [] (told_by small_history) ≡ small_rows
+unfolding rows_over key_cmp same_key
+rows_are = refl
+
+untold_from : (xn : ℕ) → 5 ≤ xn → IsUntold xn (told_by small_history)
+untold_from xn more = let past : 4 < xn = omega (arith, more) in past_untold (told_by small_history) xn past
+
+pub small_is_base : IsBase 16 5 small_rows small_base
+small_is_base = subst (λ (rows : List Row). IsBase 16 5 rows small_base) rows_are
+    (crashed_is_base 16 0 5 [] nothing (after_steps nothing small_history) small_history (nothing_is_base 16) small_is_one (omega arith) untold_from)
+
+row_again : IsStored 16 again_by_5
+unfolding is_slot
+row_again = record { form = refl; used = λ e. cc }
+
+third_put : MayPut 16 small_base 2 (header_with 2) again_by_5
+third_put = record {
+  stored = row_again;
+  writer = record { undone = refl; not_over = refl };
+  link = inr (record { slots = refl; rows = refl; its_row = ((omega arith, omega arith), refl); next = refl; its_key = refl });
+}
+
+abbrev after_5 : Store
+after_5 = after_step small_base (Step.put 2 (header_with 2) again_by_5)
+
+-- only 3 has a version of the row
+alone_5 : IsAlone small_base (Step.put 2 (header_with 2) again_by_5)
+alone_5 other its differ =
+    let later = open_later 16 5 small_rows small_base other small_is_base its in
+    All-cons (IsNotOf other) written_by_3 [] (ne_eqb 3 other (λ same. omega (arith, same, later))) (All-nil (IsNotOf other))
+
+second_commit : MayCommit after_5 5
+second_commit = may_commit 16 after_5 5 2
+    (step_writer 16 small_base (Step.put 2 (header_with 2) again_by_5) small_is_base.sound (base_writer 16 5 small_rows small_base small_is_base) third_put alone_5)
+    (record { undone = refl; not_over = refl })
+
+pub second_is_one : History 16 small_base second_run (after_steps small_base second_run)
+second_is_one = record { follow = (third_put, (second_commit, tt)); lead = refl }

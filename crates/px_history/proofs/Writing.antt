@@ -1,26 +1,28 @@
 -- Transactions that may still commit, and rows that have one writer at a time.
-use Rattle.std.proofs.Common.{◌≡◌, ◌≢◌, ℕ, zero, suc, ◌==◌, ◌||◌, ◌&&◌, not, Bool, List, [], ◌∷◌, ◌++◌, drop, map, take, refl, sym, ap, subst, ◌∙◌, arith, inl, inr, ⊎_elim}
+use Rattle.std.proofs.Common.{◌≡◌, ◌≢◌, ℕ, ◌≤◌, zero, suc, ◌==◌, ◌||◌, ◌&&◌, not, Bool, List, [], ◌∷◌, ◌++◌, drop, map, take, refl, sym, ap, subst, ◌∙◌, inl, inr, ⊎_elim}
 use Rattle.std.specs.Prelude.{All, ◌⊎◌}
 use Rattle.std.proofs.lemmas.Bool.{and_right, cases_eq, ne_eqb, or_from, or_parts, eqb-false}
 use Rattle.std.proofs.lemmas.List.Elements.{All-append, All-cons, All-drop, All-head, All-map, All-nil, All-tail, All-take}
 use Rattle.px_cells.specs.declared.header.Header.{Header}
 use Rattle.px_cells.specs.declared.slot.Slot.{Slot}
-use Rattle.px_chain.specs.Sound.{key_of}
+use Rattle.px_chain.specs.Sound.{IsUsedRow, key_of}
+use Rattle.px_model.specs.declared.row.Row.{Row}
 use Rattle.px_shown.specs.Changes.{left_of}
 use Rattle.px_shown.specs.Tables.{AreSound}
 use Rattle.px_shown.specs.Writes.{HasNoneOf}
 use Rattle.px_shown.proofs.Changes.{link_changes, unlink_changes}
 use Rattle.px_shown.proofs.Keys.{seen}
-use Rattle.px_shown.proofs.Rows.{chains_of}
+use Rattle.px_shown.proofs.Rows.{chains_of, used_or_not}
 use Rattle.px_shown.proofs.Told.{Chains, IsChanged, here_or_away}
 use Rattle.px_shown.proofs.Unlinking.{unlink_in_front}
 use Rattle.px_shown.proofs.Writing.{commit_in_front, link_in_front, nothing_in_front}
 use Rattle.px_xlog.specs.declared.change.Change.{Change}
-use Rattle.px_history.specs.Store.{IsOpen, Store, nothing, versions_from, versions_of}
+use Rattle.px_history.specs.Base.{IsBase}
+use Rattle.px_history.specs.Store.{IsOpen, Store, versions_from, versions_of}
 use Rattle.px_history.specs.Steps.{AreSteps, History, IsStep, LeavesOpen, MayPut, MayUnlink, Step, after_commit, after_put, after_rollback, after_step, after_steps, after_unlink, has_one_of, layout_linked}
 use Rattle.px_history.specs.Told.{Agrees, told}
 use Rattle.px_history.specs.Writers.{AreAlone, HaveOneWriter, IsAlone}
-use Rattle.px_history.proofs.Agreeing.{IsNotOf, link_of, none_among, none_of, nothing_agrees, step_agrees}
+use Rattle.px_history.proofs.Agreeing.{IsNotOf, base_agrees, link_of, none_among, none_later, none_of, open_before, open_later, step_agrees}
 
 -- ---- a step of another one
 
@@ -78,7 +80,7 @@ put_writer short store t header slot sound one may alone =
     let layout = layout_linked (store.tables t) (store.layouts t) slot in
     let next = after_put store t header slot in
     let link = link_of short (store.tables t) (store.layouts t) header slot (sound t) may.link in
-    let was : (xn : ℕ) → IsOpen next xn → IsOpen store xn = λ xn its. record { undone = its.undone; not_over = its.not_over } in
+    let was : (xn : ℕ) → IsOpen next xn → IsOpen store xn = open_before store (Step.put t header slot) in
     record {
       apart = λ a b open_a open_b differ. apart_changed (chains_of store.tables store.layouts) (chains_of next.tables next.layouts) t slot.row slot.key
           (slot ∷ versions_of store t slot.row) a b (link_changes short store.tables store.layouts t header slot layout sound may.stored link)
@@ -92,7 +94,7 @@ put_writer short store t header slot sound one may alone =
 commit_writer : (store : Store) (by : ℕ) → IsOpen store by → HaveOneWriter store → HaveOneWriter (after_commit store by)
 commit_writer store by writer one =
     let next = after_commit store by in
-    let was : (xn : ℕ) → IsOpen next xn → IsOpen store xn = λ xn its. record { undone = (or_parts (xn == by) (store.done xn) its.undone).1; not_over = its.not_over } in
+    let was : (xn : ℕ) → IsOpen next xn → IsOpen store xn = open_before store (Step.commit by 0) in
     record {
       apart = λ a b open_a open_b differ. one.apart a b (was a open_a) (was b open_b) differ;
       in_front = λ xn its.
@@ -103,7 +105,7 @@ commit_writer store by writer one =
 rollback_writer : (store : Store) (by : ℕ) → HaveOneWriter store → HaveOneWriter (after_rollback store by)
 rollback_writer store by one =
     let next = after_rollback store by in
-    let was : (xn : ℕ) → IsOpen next xn → IsOpen store xn = λ xn its. record { undone = its.undone; not_over = (or_parts (xn == by) (store.over xn) its.not_over).1 } in
+    let was : (xn : ℕ) → IsOpen next xn → IsOpen store xn = open_before store (Step.rollback by) in
     record {
       apart = λ a b open_a open_b differ. one.apart a b (was a open_a) (was b open_b) differ;
       in_front = λ xn its. one.in_front xn (was xn its);
@@ -129,9 +131,7 @@ unlink_writer short store t row from count sound one may =
     let next = after_unlink store t row from count in
     let slot = (store.tables t).slot in
     let chain = (store.layouts t).chain row in
-    let gone = versions_from store t row from count in
-    let was : (xn : ℕ) → IsOpen next xn → IsOpen store xn = λ xn its.
-    record { undone = its.undone; not_over = (or_parts (store.over xn) (not (store.done xn) && has_one_of xn gone) its.not_over).0 } in
+    let was : (xn : ℕ) → IsOpen next xn → IsOpen store xn = open_before store (Step.unlink t row from count) in
     record {
       apart = λ a b open_a open_b differ.
           let old = one.apart a b (was a open_a) (was b open_b) differ in
@@ -146,10 +146,17 @@ unlink_writer short store t row from count sound one may =
 
 -- ---- steps
 
-pub none_write : HaveOneWriter nothing
-none_write = record {
-  apart = λ a b open_a open_b differ t row. inl (All-nil (IsNotOf a));
-  in_front = λ xn its. nothing_in_front nothing.done xn nothing.tables nothing.layouts (λ t row used. absurd (omega (arith, used.0.0, used.0.1)));
+none_in_row : (short next : ℕ) (rows : List Row) (base : Store) (xn t row : ℕ) → IsBase short next rows base → next ≤ xn → HasNoneOf xn (versions_of base t row)
+none_in_row short next rows base xn t row b later = ⊎_elim
+    (λ (used : IsUsedRow (base.tables t) row). none_later short next rows base xn t row b later used)
+    (λ (unused : IsUsedRow (base.tables t) row → ⊥).
+    subst (λ (chain : List ℕ). HasNoneOf xn (map (base.tables t).slot chain)) (sym ((b.sound t).no_chain row unused)) (All-nil (IsNotOf xn)))
+    (used_or_not (base.tables t) row)
+
+pub base_writer : (short next : ℕ) (rows : List Row) (base : Store) → IsBase short next rows base → HaveOneWriter base
+base_writer short next rows base b = record {
+  apart = λ a other open_a open_b differ t row. inl (none_in_row short next rows base a t row b (open_later short next rows base a b open_a));
+  in_front = λ xn its. nothing_in_front base.done xn base.tables base.layouts (λ t row used. none_later short next rows base xn t row b (open_later short next rows base xn b its) used);
 }
 
 pub step_writer : (short : ℕ) (store : Store) (step : Step) → AreSound short store.tables store.layouts → HaveOneWriter store → IsStep short store step → IsAlone store step
@@ -164,16 +171,17 @@ may_commit short store xn number one its = record { writer = its; in_front = one
 
 -- ---- histories
 
-steps_writer : (short : ℕ) (changes : List Change) (store : Store) (steps : List Step) → Agrees short changes store → HaveOneWriter store → AreSteps short store steps → AreAlone store steps
-    → HaveOneWriter (after_steps store steps)
-steps_writer short changes store [] a one follow alone = one
-steps_writer short changes store (step ∷ steps) a one follow alone =
-    steps_writer short (changes ++ told step) (after_step store step) steps (step_agrees short changes store step a follow.0)
+steps_writer : (short next : ℕ) (rows : List Row) (base : Store) (changes : List Change) (store : Store) (steps : List Step) → Agrees short next rows base changes store
+    → HaveOneWriter store → AreSteps short store steps → AreAlone store steps → HaveOneWriter (after_steps store steps)
+steps_writer short next rows base changes store [] a one follow alone = one
+steps_writer short next rows base changes store (step ∷ steps) a one follow alone =
+    steps_writer short next rows base (changes ++ told step) (after_step store step) steps (step_agrees short next rows base changes store step a follow.0)
     (step_writer short store step a.sound one follow.0 alone.0) follow.1 alone.1
 
-pub history_writer : (short : ℕ) (steps : List Step) (store : Store) → History short steps store → AreAlone nothing steps → HaveOneWriter store
-history_writer short steps store h alone =
-    subst HaveOneWriter (sym h.lead) (steps_writer short [] nothing steps (nothing_agrees short) none_write h.follow alone)
+pub history_writer : (short next : ℕ) (rows : List Row) (base store : Store) (steps : List Step) → IsBase short next rows base → History short base steps store
+    → AreAlone base steps → HaveOneWriter store
+history_writer short next rows base store steps b h alone =
+    subst HaveOneWriter (sym h.lead) (steps_writer short next rows base [] base steps (base_agrees short next rows base b) (base_writer short next rows base b) h.follow alone)
 
 pub front_alone : (store : Store) (steps : List Step) (count : ℕ) → AreAlone store steps → AreAlone store (take count steps)
 front_alone store steps zero alone = tt
@@ -184,6 +192,6 @@ alone_more : (store : Store) (steps : List Step) (step : Step) → AreAlone stor
 alone_more store [] step alone one = (one, tt)
 alone_more store (first ∷ steps) step alone one = (alone.0, alone_more (after_step store first) steps step alone.1 one)
 
-pub history_alone : (short : ℕ) (steps : List Step) (store : Store) (step : Step) → History short steps store → AreAlone nothing steps → IsAlone store step
-    → AreAlone nothing (steps ++ step ∷ [])
-history_alone short steps store step h alone one = alone_more nothing steps step alone (subst (λ (s : Store). IsAlone s step) h.lead one)
+pub history_alone : (short : ℕ) (base store : Store) (steps : List Step) (step : Step) → History short base steps store → AreAlone base steps → IsAlone store step
+    → AreAlone base (steps ++ step ∷ [])
+history_alone short base store steps step h alone one = alone_more base steps step alone (subst (λ (s : Store). IsAlone s step) h.lead one)

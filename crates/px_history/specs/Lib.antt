@@ -1,4 +1,5 @@
 pub mod Store
+pub mod Base
 pub mod Steps
 pub mod Writers
 pub mod Told

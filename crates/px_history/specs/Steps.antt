@@ -10,7 +10,7 @@ use Rattle.px_shown.specs.Changes.{layouts_unlinked, left_of, taken_slot, with_l
 use Rattle.px_shown.specs.Shown.{done_with, row_shown}
 use Rattle.px_shown.specs.Tables.{with_layout}
 use Rattle.px_shown.specs.Writes.{AreInFront, HasNoneOf}
-use Rattle.px_history.specs.Store.{Store, IsOpen, nothing, versions_of, versions_from}
+use Rattle.px_history.specs.Store.{Store, IsOpen, versions_of, versions_from}
 
 pub data Step : Type 0 where
   -- a version is linked in this table, whose header is then this one
@@ -87,6 +87,12 @@ after_step store (commit xn number) = after_commit store xn
 after_step store (rollback xn) = after_rollback store xn
 after_step store (unlink t row from count) = after_unlink store t row from count
 
+abbrev pub IsUnlink : Step → Type 0
+IsUnlink (put t header slot) = ⊥
+IsUnlink (commit xn number) = ⊥
+IsUnlink (rollback xn) = ⊥
+IsUnlink (unlink t row from count) = Unit {0}
+
 -- the step doesn't end the transaction, nor takes a version from it
 abbrev pub LeavesOpen : (xn : ℕ) → Store → Step → Type 0
 LeavesOpen xn store (put t header slot) = Unit {0}
@@ -104,7 +110,7 @@ abbrev pub AreSteps : (short : ℕ) → Store → List Step → Type 0
 AreSteps short store [] = Unit {0}
 AreSteps short store (step ∷ steps) = IsStep short store step × AreSteps short (after_step store step) steps
 
--- the steps lead from nothing to the store
-pub record History (short : ℕ) (steps : List Step) (store : Store) : Type 0 where
-  pub follow : AreSteps short nothing steps
-  pub lead : store ≡ after_steps nothing steps
+-- the steps lead from the one store to the other
+pub record History (short : ℕ) (base : Store) (steps : List Step) (store : Store) : Type 0 where
+  pub follow : AreSteps short base steps
+  pub lead : store ≡ after_steps base steps

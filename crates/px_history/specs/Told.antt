@@ -1,11 +1,13 @@
 -- What the steps tell of the writes and ends of transactions, and that a store agrees with it.
-use Rattle.std.specs.Prelude.{◌≡◌, ◌≢◌, ◌↔◌, ℕ, ◌+◌, true, false, List, [], ◌∷◌, All, Contains, flat_map}
+use Rattle.std.specs.Prelude.{◌≡◌, ◌≢◌, ◌↔◌, ℕ, ◌+◌, ◌<◌, ◌≤◌, true, false, List, [], ◌∷◌, All, Contains, flat_map}
+use Rattle.px_model.specs.declared.row.Row.{Row}
 use Rattle.px_shown.specs.Shown.{Shows, write_of}
 use Rattle.px_shown.specs.Tables.{AreSound}
 use Rattle.px_shown.specs.Writes.{AreWritesOf}
 use Rattle.px_xlog.specs.declared.change.Change.{Change}
 use Rattle.px_xlog.specs.declared.change.Change.TheVariants.{Put, Commit, Rollback}
-use Rattle.px_xlog.specs.Reading.{commits_in, rows_in, stored_number, writes_of}
+use Rattle.px_xlog.specs.Reading.{last_commit, stored_number, writes_of}
+use Rattle.px_history.specs.Base.{rows_over}
 use Rattle.px_history.specs.Store.{Store, IsOpen}
 use Rattle.px_history.specs.Steps.{Step}
 
@@ -21,12 +23,12 @@ told_by steps = flat_map told steps
 
 -- ---- the numbers of commits
 
--- a commit has the next number
-abbrev pub IsNumberedOn : List Change → Step → Type 0
-IsNumberedOn changes (Step.put t header slot) = Unit {0}
-IsNumberedOn changes (Step.commit xn number) = number ≡ commits_in changes + 1
-IsNumberedOn changes (Step.rollback xn) = Unit {0}
-IsNumberedOn changes (Step.unlink t row from count) = Unit {0}
+-- a commit has the next number, where the last one before the changes had this one
+abbrev pub IsNumberedOn : (last : ℕ) → List Change → Step → Type 0
+IsNumberedOn last changes (Step.put t header slot) = Unit {0}
+IsNumberedOn last changes (Step.commit xn number) = number ≡ last_commit last changes + 1
+IsNumberedOn last changes (Step.rollback xn) = Unit {0}
+IsNumberedOn last changes (Step.unlink t row from count) = Unit {0}
 
 -- the last commit's number after the step, where it was this one
 abbrev pub last_after : (last : ℕ) → Step → ℕ
@@ -45,13 +47,20 @@ HasCommitOf xn changes = (number : ℕ) × Contains changes (Commit xn number)
 abbrev pub IsUntold : (xn : ℕ) → List Change → Type 0
 IsUntold xn changes = All (λ change. stored_number change ≢ xn) changes
 
--- The store's cells are sound and show the rows that the changes stand for; who is done has a Commit there, and isn't over;
--- of who is over something is told; and of each transaction that may still commit the chains have just the writes that stand
--- there.
-pub record Agrees (short : ℕ) (changes : List Change) (store : Store) : Type 0 where
+-- nothing is told of the transaction with this number, nor of later ones
+abbrev pub AreUntoldFrom : (next : ℕ) → List Change → Type 0
+AreUntoldFrom next changes = (xn : ℕ) → next ≤ xn → IsUntold xn changes
+
+-- A store agrees with the changes told since a base, whose rows and next number these are. Its cells are sound and show the rows
+-- after the changes. Of the later numbers those are done that have a Commit there, and of the earlier ones those that were done
+-- in the base; none that is done is over. Who may still commit has a later number, and so may each of whom nothing is told; the
+-- chains have just the writes that the changes tell of it.
+pub record Agrees (short next : ℕ) (rows : List Row) (base : Store) (changes : List Change) (store : Store) : Type 0 where
   pub sound : AreSound short store.tables store.layouts
-  pub shows : Shows store.tables store.layouts store.done (rows_in changes)
-  pub done : (xn : ℕ) → (store.done xn ≡ true) ↔ HasCommitOf xn changes
+  pub shows : Shows store.tables store.layouts store.done (rows_over rows changes)
+  pub done : (xn : ℕ) → ((next ≤ xn) × (store.done xn ≡ true)) ↔ HasCommitOf xn changes
+  pub earlier : (xn : ℕ) → xn < next → store.done xn ≡ base.done xn
   pub not_over : (xn : ℕ) → store.done xn ≡ true → store.over xn ≡ false
-  pub fresh : (xn : ℕ) → IsUntold xn changes → store.over xn ≡ false
+  pub later : (xn : ℕ) → IsOpen store xn → next ≤ xn
+  pub fresh : (xn : ℕ) → next ≤ xn → IsUntold xn changes → store.over xn ≡ false
   pub wrote : (xn : ℕ) → IsOpen store xn → AreWritesOf xn store.tables store.layouts (writes_of xn changes)

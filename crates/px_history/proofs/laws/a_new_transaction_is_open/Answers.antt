@@ -5,13 +5,18 @@ use Rattle.px_history.proofs.Writing.{stays_open}
 use Rattle.px_history.proofs.laws.a_new_transaction_is_open.Goals as goal
 
 pub returns-clause-is_open : goal.returns-clause-is_open
-returns-clause-is_open c = λ short steps store xn h untold. untold_open short (told_by steps) store xn (history_agrees short steps store h) untold
+returns-clause-is_open c = λ short next rows base store steps xn b h later untold.
+    untold_open short next rows base (told_by steps) store xn (history_agrees short next rows base store steps b h) later untold
 
 pub returns-clause-no_versions : goal.returns-clause-no_versions
-returns-clause-no_versions c = λ short steps store xn t row h untold used. untold_none short (told_by steps) store xn t row (history_agrees short steps store h) untold used
+returns-clause-no_versions c = λ short next rows base store steps xn t row b h later untold used.
+    untold_none short next rows base (told_by steps) store xn t row (history_agrees short next rows base store steps b h) later untold used
 
 pub returns-clause-past_all : goal.returns-clause-past_all
 returns-clause-past_all c = past_untold
 
 pub returns-clause-stays : goal.returns-clause-stays
 returns-clause-stays c = stays_open
+
+pub returns-clause-later : goal.returns-clause-later
+returns-clause-later c = λ short next rows base store steps xn b h its. (history_agrees short next rows base store steps b h).later xn its

@@ -1,7 +1,8 @@
 use Rattle.std.proofs.Common.{refl}
 use Rattle.px_model.specs.Rows.{key_cmp, same_key}
 use Rattle.px_xlog.specs.Reading.{rows_in}
-use Rattle.px_history.proofs.Small.{small_is_one}
+use Rattle.px_history.specs.Base.{rows_over}
+use Rattle.px_history.proofs.Small.{second_is_one, small_is_base, small_is_one}
 use Rattle.px_history.proofs.laws.a_small_history.Goals as goal
 
 pub returns-clause-history : goal.returns-clause-history
@@ -18,3 +19,13 @@ returns-clause-written c = refl
 pub returns-clause-committed : goal.returns-clause-committed
 unfolding rows_in key_cmp same_key
 returns-clause-committed c = refl
+
+pub returns-clause-base : goal.returns-clause-base
+returns-clause-base c = small_is_base
+
+pub returns-clause-second : goal.returns-clause-second
+returns-clause-second c = second_is_one
+
+pub returns-clause-rows_again : goal.returns-clause-rows_again
+unfolding rows_over key_cmp same_key
+returns-clause-rows_again c = refl

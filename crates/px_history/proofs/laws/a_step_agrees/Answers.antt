@@ -1,8 +1,8 @@
-use Rattle.px_history.proofs.Agreeing.{nothing_agrees, step_agrees}
+use Rattle.px_history.proofs.Agreeing.{base_agrees, step_agrees}
 use Rattle.px_history.proofs.laws.a_step_agrees.Goals as goal
 
 pub returns-clause-none : goal.returns-clause-none
-returns-clause-none c = nothing_agrees
+returns-clause-none c = base_agrees
 
 pub returns-clause-step : goal.returns-clause-step
-returns-clause-step c = step_agrees
+returns-clause-step c = λ short next rows base store changes step a may. step_agrees short next rows base changes store step a may

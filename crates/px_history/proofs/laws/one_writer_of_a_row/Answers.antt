@@ -1,8 +1,8 @@
-use Rattle.px_history.proofs.Writing.{front_alone, history_alone, history_writer, may_commit, none_write, step_writer}
+use Rattle.px_history.proofs.Writing.{base_writer, front_alone, history_alone, history_writer, may_commit, step_writer}
 use Rattle.px_history.proofs.laws.one_writer_of_a_row.Goals as goal
 
-pub returns-clause-none : goal.returns-clause-none
-returns-clause-none c = none_write
+pub returns-clause-base : goal.returns-clause-base
+returns-clause-base c = base_writer
 
 pub returns-clause-step : goal.returns-clause-step
 returns-clause-step c = step_writer
