@@ -1,5 +1,5 @@
 // Standard input as a source.
-ghost use Rattle.std.specs.Prelude.{◌≡◌, ◌≤◌, [], length, IfOk, OnOk};
+ghost use Rattle.std.specs.Prelude.{◌≡◌, ◌≤◌, [], length, IfOk};
 ghost use Rattle.px_source.specs.Asked.{asked_to_read, more_by, nothing_asked};
 ghost use Rattle.px_source.specs.Source.{ReadCounted, Rose};
 
@@ -54,8 +54,7 @@ impl<R: Input + Drop> StdinSource<R> {
     /// answered before the next one is waited for.
     fn read_some(&mut self, buf: &mut [u8]) -> io::Result<usize>
         ensures bound { IfOk result (λ n. n ≤ length buf.new) }
-        ensures asked { OnOk result (Rose self.old.calls self.new.calls) }
-        ensures none_fell { self.old.calls ≤ self.new.calls }
+        ensures asked { Rose self.old.calls self.new.calls }
         ensures bytes { IfOk result (λ n. self.new.bytes ≡ more_by n self.old.bytes) }
         ensures faults { self.new.faults ≡ self.old.faults }
     {
@@ -65,7 +64,7 @@ impl<R: Input + Drop> StdinSource<R> {
                 answer => return answer,
             }
         }
-        Err(ErrorKind::Interrupted.into())
+        self.ask(buf)
     }
 }
 
@@ -79,7 +78,7 @@ impl<R: Input + Drop> Source for StdinSource<R> {
     fn read(&mut self, buf: &mut [u8]) -> Result<usize, SourceFault>
         ensures bound { IfOk result (λ n. n ≤ length buf.new) }
         ensures counted { ReadCounted self.old.faults self.new.faults result }
-        ensures asked { OnOk result (Rose self.old.calls self.new.calls) }
+        ensures asked { Rose self.old.calls self.new.calls }
         ensures taken { IfOk result (λ n. self.new.bytes ≡ more_by n self.old.bytes) }
     {
         match self.read_some(buf) {
