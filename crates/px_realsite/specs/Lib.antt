@@ -3,3 +3,4 @@ pub mod OpenFiles
 pub mod Path
 pub mod RealSite
 pub mod Streams
+pub mod Traffic

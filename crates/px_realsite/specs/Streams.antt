@@ -2,7 +2,7 @@
 use Rattle.std.specs.Prelude.{◌<ℤ◌}
 use Rattle.std.specs.Fd.{file_raw_fd}
 use Rattle.std.specs.declared.fs.File.{File}
-use Rattle.px_realsite.specs.declared.streams.TheConstants.{LAST_STREAM}
+use Rattle.px_realsite.specs.declared.system.streams.TheConstants.{LAST_STREAM}
 
 -- the number of the file is that of no standard stream
 abbrev pub IsNoStream : File → Type 0

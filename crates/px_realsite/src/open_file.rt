@@ -1,41 +1,40 @@
 //! One open file, read and written at places.
-ghost use Rattle.std.specs.Prelude.{◌≡◌, ◌≤◌, ◌+◌, length, IfOk, false, true, OnOk};
-ghost use Rattle.px_realsite.specs.Streams.{IsNoStream};
+ghost use Rattle.std.specs.Prelude.{◌≡◌, ◌≤◌, ◌<◌, ◌+◌, length, IfOk, false, true, OnOk};
+ghost use Rattle.px_realsite.specs.Traffic.{Asked, Moved, NoBytes, OnlyReads, OnlyWrites};
 
-use crate::streams::apart_from_streams;
+use crate::system::{Handle, System};
 use px_site::{FileName, LONGEST_FILE};
-use std::fs::File;
 use std::io::{self, ErrorKind};
-use std::os::unix::fs::FileExt;
 
 /// A file of the folder that is open for reading and writing. It is closed where it is dropped.
 #[derive(Drop)]
 pub(crate) struct OpenFile {
     pub(crate) name: FileName,
-    handle: File,
+    handle: Handle,
     /// Whether it was changed through this handle since its last sync.
     is_changed: bool,
-    ghost no_stream: { IsNoStream handle },
 }
 
 impl OpenFile {
     /// A file that was just opened.
-    pub(crate) fn new(name: FileName, handle: File) -> io::Result<OpenFile>
-        ensures named { IfOk result (λ file. file.name ≡ name) }
-        ensures unchanged { IfOk result (λ file. file.is_changed ≡ false) }
+    pub(crate) fn new(name: FileName, handle: Handle) -> OpenFile
+        ensures named { result.name ≡ name }
+        ensures unchanged { result.is_changed ≡ false }
     {
-        Ok(OpenFile {
+        OpenFile {
             name,
-            handle: apart_from_streams(handle)?,
+            handle,
             is_changed: false,
-        })
+        }
     }
 
     /// The file's length, or an error where that is past the greatest.
-    pub(crate) fn len(&self) -> io::Result<u64>
+    pub(crate) fn len<R>(&self, system: &mut System<R>) -> io::Result<u64>
         ensures bound { IfOk result (λ len. len ≤ LONGEST_FILE) }
+        ensures asked { Asked system.old.traffic system.new.traffic }
+        ensures no_bytes { NoBytes system.old.traffic system.new.traffic }
     {
-        let len = self.handle.metadata()?.len();
+        let len = system.len(&self.handle)?;
         if len > LONGEST_FILE {
             return Err(ErrorKind::FileTooLarge.into());
         }
@@ -43,81 +42,106 @@ impl OpenFile {
     }
 
     /// Reads from `place` on until `buf` is full or the file ends. What stands past the greatest length is no content.
-    pub(crate) fn read_at(&self, place: u64, buf: &mut [u8]) -> io::Result<usize>
+    pub(crate) fn read_at<R>(
+        &self,
+        system: &mut System<R>,
+        place: u64,
+        buf: &mut [u8],
+    ) -> io::Result<usize>
         ensures bound { IfOk result (λ count. count ≤ length buf.new) }
+        ensures asked { place < LONGEST_FILE → 0 < length buf.new
+            → OnOk result (Asked system.old.traffic system.new.traffic) }
+        ensures moved { IfOk result (Moved system.old.traffic.bytes_read system.new.traffic.bytes_read) }
+        ensures only_reads { OnlyReads system.old.traffic system.new.traffic }
     {
         let room = (buf.len() as u64).min(LONGEST_FILE.saturating_sub(place)) as usize;
         let mut done = 0;
         for _ in 0..u64::MAX {
             if done == room {
-                break;
+                return Ok(done);
             }
-            match self
-                .handle
-                .read_at(&mut buf[done..room], place + done as u64)
-            {
-                Ok(0) => break,
+            match system.read_at(&self.handle, place + done as u64, &mut buf[done..room]) {
+                Ok(0) => return Ok(done),
                 Ok(count) => done += count,
                 Err(error) if error.kind() == ErrorKind::Interrupted => {}
                 Err(error) => return Err(error),
             }
         }
-        Ok(done)
+        Err(ErrorKind::TimedOut.into())
     }
 
     /// Writes all of `bytes` from `place` on. A gap before them is filled with zero bytes, also where no byte follows it.
-    pub(crate) fn write_at(&mut self, place: u64, bytes: &[u8]) -> io::Result<()>
+    pub(crate) fn write_at<R>(
+        &mut self,
+        system: &mut System<R>,
+        place: u64,
+        bytes: &[u8],
+    ) -> io::Result<()>
         requires { place + length bytes.now ≤ LONGEST_FILE }
         ensures changed { OnOk result (self.new.is_changed ≡ true) }
         ensures named { self.new.name ≡ self.old.name }
+        ensures asked { OnOk result (Asked system.old.traffic system.new.traffic) }
+        ensures moved { OnOk result
+            (Moved system.old.traffic.bytes_written system.new.traffic.bytes_written (length bytes.now)) }
+        ensures only_writes { OnlyWrites system.old.traffic system.new.traffic }
     {
         self.is_changed = true;
-        if bytes.is_empty() && self.handle.metadata()?.len() < place {
-            return self.handle.set_len(place);
+        if bytes.is_empty() && system.len(&self.handle)? < place {
+            return system.set_len(&self.handle, place);
         }
-        write_all(&self.handle, place, bytes)
+        write_all(system, &self.handle, place, bytes)
     }
 
     /// Shortens the file where it is longer. The system's own call would lengthen it where it is shorter.
-    pub(crate) fn cut(&mut self, len: u64) -> io::Result<()>
+    pub(crate) fn cut<R>(&mut self, system: &mut System<R>, len: u64) -> io::Result<()>
         ensures named { self.new.name ≡ self.old.name }
+        ensures asked { Asked system.old.traffic system.new.traffic }
+        ensures no_bytes { NoBytes system.old.traffic system.new.traffic }
     {
-        if self.handle.metadata()?.len() > len {
+        if system.len(&self.handle)? > len {
             self.is_changed = true;
-            self.handle.set_len(len)?;
+            system.set_len(&self.handle, len)?;
         }
         Ok(())
     }
 
     /// Makes the content and the length durable.
-    pub(crate) fn sync(&mut self) -> io::Result<()>
+    pub(crate) fn sync<R>(&mut self, system: &mut System<R>) -> io::Result<()>
         ensures unchanged { OnOk result (self.new.is_changed ≡ false) }
         ensures named { self.new.name ≡ self.old.name }
+        ensures asked { Asked system.old.traffic system.new.traffic }
+        ensures no_bytes { NoBytes system.old.traffic system.new.traffic }
     {
-        self.handle.sync_data()?;
+        system.sync(&self.handle)?;
         self.is_changed = false;
         Ok(())
     }
 
     /// Closes the file, once it is durable.
-    pub(crate) fn close(mut self) -> io::Result<()> {
+    pub(crate) fn close<R>(mut self, system: &mut System<R>) -> io::Result<()>
+        ensures no_bytes { NoBytes system.old.traffic system.new.traffic }
+    {
         if self.is_changed {
-            self.sync()?;
+            self.sync(system)?;
         }
         Ok(())
     }
 }
 
 /// Writes until all bytes are written. Where some were, a want of memory isn't answered as one: that says that nothing was done.
-fn write_all(handle: &File, place: u64, bytes: &[u8]) -> io::Result<()>
+fn write_all<R>(system: &mut System<R>, handle: &Handle, place: u64, bytes: &[u8]) -> io::Result<()>
     requires { place + length bytes.now ≤ LONGEST_FILE }
+    ensures asked { 0 < length bytes.now → OnOk result (Asked system.old.traffic system.new.traffic) }
+    ensures moved { OnOk result
+        (Moved system.old.traffic.bytes_written system.new.traffic.bytes_written (length bytes.now)) }
+    ensures only_writes { OnlyWrites system.old.traffic system.new.traffic }
 {
     let mut done = 0;
     for _ in 0..u64::MAX {
         if done == bytes.len() {
             return Ok(());
         }
-        match handle.write_at(&bytes[done..], place + done as u64) {
+        match system.write_at(handle, place + done as u64, &bytes[done..]) {
             Ok(0) => return Err(ErrorKind::WriteZero.into()),
             Ok(count) => done += count,
             Err(error) if error.kind() == ErrorKind::Interrupted => {}

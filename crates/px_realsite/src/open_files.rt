@@ -1,13 +1,14 @@
 //! The files that are open.
-ghost use Rattle.std.specs.Prelude.{◌≤◌, ◌<◌, ℕ, length, vec_len, IfOk, IfSome, IfNone};
+ghost use Rattle.std.specs.Prelude.{◌≤◌, ◌<◌, ℕ, length, vec_len, IfSome, IfNone};
 ghost use Rattle.std.specs.Vec.{vec_capacity};
 ghost use Rattle.px_realsite.specs.OpenFiles.{IsNamed};
+ghost use Rattle.px_realsite.specs.Traffic.{NoBytes};
 ghost use Rattle.px_realsite.specs.declared.open_files.TheConstants.{MOST_OPEN};
 
 use crate::open_file::OpenFile;
+use crate::system::{Handle, System};
 use px_site::FileName;
 use std::alloc::{AllocError, Global};
-use std::fs::File;
 use std::io;
 
 /// The most files that are open at once. A process may have 1,024 by default.
@@ -46,25 +47,25 @@ impl OpenFiles {
     /// Closes the file whose last use is the longest ago, where no other may be opened.
     ///
     /// What was written to it is made durable first: once a file is closed, the system may forget that writing it back failed.
-    pub(crate) fn make_room(&mut self) -> io::Result<()>
+    pub(crate) fn make_room<R>(&mut self, system: &mut System<R>) -> io::Result<()>
         ensures room { vec_len self.new.files < MOST_OPEN }
+        ensures no_bytes { NoBytes system.old.traffic system.new.traffic }
     {
         if self.files.len() < MOST_OPEN {
             return Ok(());
         }
-        self.files.remove(0).close()
+        self.files.remove(0).close(system)
     }
 
     /// Takes a file that was opened, and answers where it stands.
-    pub(crate) fn add(&mut self, name: FileName, handle: File) -> io::Result<usize>
+    pub(crate) fn add(&mut self, name: FileName, handle: Handle) -> usize
         requires { vec_len self.old.files < MOST_OPEN }
-        ensures within { IfOk result (λ at. at < vec_len self.new.files) }
-        ensures named { IfOk result (IsNamed self.new.files.items name) }
+        ensures within { result < vec_len self.new.files }
+        ensures named { IsNamed self.new.files.items name result }
     {
-        let file = OpenFile::new(name, handle)?;
         let at = self.files.len();
-        self.files.push_reserved(file);
-        Ok(at)
+        self.files.push_reserved(OpenFile::new(name, handle));
+        at
     }
 
     /// Closes the file without a sync, since it has no name any more.

@@ -1,10 +1,11 @@
 //! The names of a folder, in order.
-ghost use Rattle.std.specs.Prelude.{◌≡◌, ◌↔◌, IfOk, IfSome, IsTrue};
+ghost use Rattle.std.specs.Prelude.{◌↔◌, IfOk, IfSome, IsSome, IsTrue, OnOk, OnSome};
 ghost use Rattle.px_site.specs.State.{IsListed};
+ghost use Rattle.px_realsite.specs.Traffic.{Asked, NoBytes};
 
 use crate::path::path_of;
+use crate::system::System;
 use px_site::FileName;
-use std::fs::{self, DirEntry};
 use std::io::{self, ErrorKind};
 use std::rt::Files;
 
@@ -25,21 +26,16 @@ pub(crate) struct Walk {
 impl Walk {
     /// Reads the folder. One that isn't there has no names.
     pub(crate) fn read<R: Files + AllocGlobal + Clone + Drop>(
-        rt: &R,
+        system: &mut System<R>,
         folder: &str,
-    ) -> io::Result<Walk> {
-        let mut names = Vec::new(rt.alloc());
-        match fs::read_dir(rt, folder) {
-            Ok(entries) => {
-                for entry in entries {
-                    if let Some(name) = name_of(entry)? {
-                        names.push(name)?;
-                    }
-                }
-            }
-            Err(error) if error.kind() == ErrorKind::NotFound => {}
-            Err(error) => return Err(error),
-        }
+    ) -> io::Result<Walk>
+        ensures asked { Asked system.old.traffic system.new.traffic }
+        ensures no_bytes { NoBytes system.old.traffic system.new.traffic }
+    {
+        let mut names = match system.names(folder) {
+            Err(error) if error.kind() == ErrorKind::NotFound => Vec::new(system.alloc()),
+            names => names?,
+        };
         names.sort_unstable();
         Ok(Walk {
             names,
@@ -49,37 +45,32 @@ impl Walk {
     }
 
     /// Whether the listing goes on after this name.
-    pub(crate) fn goes_on_after(&self, after: Option<FileName>) -> bool {
+    pub(crate) fn goes_on_after(&self, after: Option<FileName>) -> bool
+        ensures { IsTrue result → IsSome after }
+    {
         after.is_some() && self.last == after
     }
 
     /// The least name after this one whose file has a byte.
     pub(crate) fn next<R: Files + AllocGlobal>(
         &mut self,
-        rt: &R,
+        system: &mut System<R>,
         folder: &str,
         after: Option<FileName>,
     ) -> io::Result<Option<FileName>>
         ensures bound { IfOk result (λ found. IfSome found (IsListed after)) }
+        ensures asked { IfOk result (λ found. OnSome found (Asked system.old.traffic system.new.traffic)) }
+        ensures no_bytes { NoBytes system.old.traffic system.new.traffic }
     {
         for at in self.next..self.names.len() {
             let name = self.names[at];
-            if is_listed(after, name) && has_byte(rt, folder, name)? {
+            if is_listed(after, name) && has_byte(system, folder, name)? {
                 self.next = at + 1;
                 self.last = Some(name);
                 return Ok(Some(name));
             }
         }
         Ok(None)
-    }
-}
-
-/// The file that an entry of the folder is. An entry with another name is none of ours, also where its name is no text.
-fn name_of<R: Files + Drop>(entry: io::Result<DirEntry<R>>) -> io::Result<Option<FileName>> {
-    match entry {
-        Ok(entry) => Ok(FileName::of_text(entry.file_name().as_bytes())),
-        Err(error) if error.kind() == ErrorKind::InvalidFilename => Ok(None),
-        Err(error) => Err(error),
     }
 }
 
@@ -94,11 +85,17 @@ fn is_listed(after: Option<FileName>, name: FileName) -> bool
 }
 
 /// Whether the name is a file's, with at least one byte. What isn't there has none.
-fn has_byte<R: Files + AllocGlobal>(rt: &R, folder: &str, name: FileName) -> io::Result<bool> {
-    let path = path_of(rt.alloc(), folder, name)?;
-    match fs::metadata(rt, path.as_str()) {
-        Ok(metadata) => Ok(metadata.is_file() && metadata.len() > 0),
+fn has_byte<R: Files + AllocGlobal>(
+    system: &mut System<R>,
+    folder: &str,
+    name: FileName,
+) -> io::Result<bool>
+    ensures asked { OnOk result (Asked system.old.traffic system.new.traffic) }
+    ensures no_bytes { NoBytes system.old.traffic system.new.traffic }
+{
+    let path = path_of(system.alloc(), folder, name)?;
+    match system.has_byte(path.as_str()) {
         Err(error) if error.kind() == ErrorKind::NotFound => Ok(false),
-        Err(error) => Err(error),
+        answer => answer,
     }
 }

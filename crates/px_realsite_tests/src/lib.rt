@@ -3,6 +3,7 @@
 //! Each test has a folder of its own name in the folder where it is run, and removes it.
 //!
 //! - `calls`: calls of a site as rows of a table
+//! - `counts`: what a site counts as asked of the system
 //! - `contents`: files as they are written, cut, removed and found again
 //! - `listings`: which names are listed, and a listing while files come and go
 //! - `faults`: which kind of fault each call answers
@@ -13,6 +14,8 @@
 mod calls;
 #[cfg(test)]
 mod contents;
+#[cfg(test)]
+mod counts;
 #[cfg(test)]
 mod faults;
 #[cfg(test)]

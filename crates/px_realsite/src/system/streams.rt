@@ -15,7 +15,7 @@ const LAST_STREAM: RawFd = 2;
 /// closed, that is the stream's, and what is told would be written into the file. The number is free again at the end, so
 /// that the stream stays a closed one, which answers errors. In between nothing is told, since that wants the site, which is
 /// lent to the call that opens the file.
-pub(crate) fn apart_from_streams(file: File) -> io::Result<File>
+pub(super) fn apart_from_streams(file: File) -> io::Result<File>
     ensures apart { IfOk result IsNoStream }
 {
     if is_no_stream(&file) {
