@@ -101,14 +101,14 @@ open_within slots s x at = elim (cases_lt s (length slots)) [
 ]
 
 -- what the key has where one transaction alone has written it
-held_alone : (key : Key) (base : ℕ) (slots : List (Option Open)) (s : ℕ) (x : Open) → get_or slots s None ≡ Some x
+pub held_alone : (key : Key) (base : ℕ) (slots : List (Option Open)) (s : ℕ) (x : Open) → get_or slots s None ≡ Some x
     → slots_at key base (set slots s None) ≡ [] → slots_at key base slots ≡ writes_at key (Some (base + x.number)) x.writes
 held_alone key base slots s x at none =
     ap (slots_at key base) (sym (set-get_or slots s None))
     ∙ slot_alone key base slots s (get_or slots s None) (open_within slots s x at) none
     ∙ ap (λ (slot : Option Open). of_key key (of_slot base slot)) at
 
-nobody_writes : (key : Key) (base : ℕ) (slots : List (Option Open)) → open_writer key slots ≡ None → slots_at key base slots ≡ []
+pub nobody_writes : (key : Key) (base : ℕ) (slots : List (Option Open)) → open_writer key slots ≡ None → slots_at key base slots ≡ []
 nobody_writes key base [] nobody = refl
 nobody_writes key base (None ∷ slots) nobody = nobody_writes key base slots nobody
 nobody_writes key base (Some y ∷ slots) nobody =
@@ -296,7 +296,7 @@ calls_keep_chains m s Rollback key k reads = unless_refused _ m _ key (λ h. let
 
 -- ---- calls that write
 
-no_conflict : (a b c d : Bool) (o : Option ℕ) (r : Reply)
+pub no_conflict : (a b c d : Bool) (o : Option ℕ) (r : Reply)
     → is_refusal (steps.unless_refused (cond a (Some NoTable) (cond b (Some LimitKey) (cond c (Some LimitBody) (cond d (Some LimitWrites) (option_map Conflict o))))) r) ≡ false → o ≡ None
 no_conflict true b c d o r h = absurd (true≢false h)
 no_conflict false true c d o r h = absurd (true≢false h)
@@ -305,11 +305,11 @@ no_conflict false false false true o r h = absurd (true≢false h)
 no_conflict false false false false None r h = refl
 no_conflict false false false false (Some n) r h = absurd (true≢false h)
 
-answered : (o : Option Open) (f : Open → Reply) (x : Open) → o ≡ Some x → is_refusal (if_open o f) ≡ false → is_refusal (f x) ≡ false
+pub answered : (o : Option Open) (f : Open → Reply) (x : Open) → o ≡ Some x → is_refusal (if_open o f) ≡ false → is_refusal (f x) ≡ false
 answered None f x is h = absurd (none-some x is)
 answered (Some y) f x is h = ap (λ (z : Open). is_refusal (f z)) (sym (same_Some y x is)) ∙ h
 
-free : (m : Machine) (s : ℕ) (x : Open) (key : Key) → conflict_of m s x key ≡ None → open_writer key (set m.active s None) ≡ None
+pub free : (m : Machine) (s : ℕ) (x : Open) (key : Key) → conflict_of m s x key ≡ None → open_writer key (set m.active s None) ≡ None
 unfolding conflict_of
 free m s x key none = (option_or_none (open_writer key (set m.active s None)) (last_writer key (drop x.snap m.ended)) none).0
 

@@ -32,7 +32,7 @@ use Rattle.px_chain_laws.proofs.Looking.{last, last-append, none_passes, last_ag
 use Rattle.px_chain_laws.proofs.Standings.{IsTold, ended_are_told, open_are_open}
 
 -- a chain from its newest end
-newest_first : (test : Variation → Bool) (base passed own : List Variation)
+pub newest_first : (test : Variation → Bool) (base passed own : List Variation)
     → last test (base ++ passed ++ own) ≡ option_or (last test own) (option_or (last test passed) (last test base))
 newest_first test base passed own =
     last-append test (base ++ passed) own ∙ ap (option_or (last test own)) (last-append test base passed)
@@ -123,15 +123,15 @@ row_over : (xn : Option ℕ) (o : Option Write) (v : Option Variation) → row_s
 row_over xn None v = refl
 row_over xn (Some w) v = refl
 
-row_over_ended : (base : ℕ) (o : Option Flat) (v : Option Variation) → row_seen (option_or (option_map (of_ended base) o) v) ≡ left_by (row_seen v) o
+pub row_over_ended : (base : ℕ) (o : Option Flat) (v : Option Variation) → row_seen (option_or (option_map (of_ended base) o) v) ≡ left_by (row_seen v) o
 row_over_ended base None v = refl
 row_over_ended base (Some f) v = refl
 
-left_left : (row : Option Row) (a b : Option Flat) → left_by (left_by row a) b ≡ left_by row (option_or b a)
+pub left_left : (row : Option Row) (a b : Option Flat) → left_by (left_by row a) b ≡ left_by row (option_or b a)
 left_left row a None = refl
 left_left row a (Some f) = refl
 
-left_writes : (row : Option Row) (o : Option Flat) → left_by row o ≡ row_left row (option_map (λ (f : Flat). f.write) o)
+pub left_writes : (row : Option Row) (o : Option Flat) → left_by row o ≡ row_left row (option_map (λ (f : Flat). f.write) o)
 left_writes row None = refl
 left_writes row (Some f) = refl
 
@@ -140,7 +140,7 @@ put_seen : (test : Variation → Bool) (base : ℕ) (f : Flat) (w : Write) → f
 put_seen test base f (Put row) e passes = ap (λ b. row_seen (cond b (Some (of_ended base f)) None)) passes ∙ ap row_written e
 put_seen test base f (Delete table key) e passes = refl
 
-base_seen : (test : Variation → Bool) (base : ℕ) (row : Option Row) (o : Option Flat) → ((r : Row) → test (by None (Put r)) ≡ true)
+pub base_seen : (test : Variation → Bool) (base : ℕ) (row : Option Row) (o : Option Flat) → ((r : Row) → test (by None (Put r)) ≡ true)
     → IfSome o (λ f. test (of_ended base f) ≡ true) → row_seen (last test (base_or base row o)) ≡ left_by row o
 base_seen test base None None first passes = refl
 base_seen test base (Some r) None first passes = ap (λ b. row_seen (cond b (Some (by None (Put r))) None)) (first r)
@@ -202,7 +202,7 @@ abbrev number_past : ℕ → Option Flat → Option ℕ
 number_past snap None = None
 number_past snap (Some f) = cond (ltb f.place snap) None (Some f.number)
 
-committed_at : (place : ℕ) (committed : Bool) → is_committed (standing_at place committed) ≡ committed
+pub committed_at : (place : ℕ) (committed : Bool) → is_committed (standing_at place committed) ≡ committed
 committed_at place true = refl
 committed_at place false = refl
 
@@ -244,7 +244,7 @@ number_over snap None None h l = refl
 number_over snap None (Some f) h l = ap (λ b. cond b None (Some f.number)) (lt-ltb f.place snap l)
 number_over snap (Some f) low h l = ap (λ b. cond b None (Some f.number)) (le-ltb f.place snap h)
 
-committed_found : (key : Key) (P : Flat → Type 0) (all : List Flat) → All (λ f. f.committed ≡ true → P f) all → IfSome (last_committed key all) P
+pub committed_found : (key : Key) (P : Flat → Type 0) (all : List Flat) → All (λ f. f.committed ≡ true → P f) all → IfSome (last_committed key all) P
 committed_found key P all each =
     subst (λ o. IfSome o P) (sym (last_committed-last key all))
     (last_found (of_committed key) P all

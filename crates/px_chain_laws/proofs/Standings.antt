@@ -30,7 +30,7 @@ standing_of_ended place (g ∷ ended) (suc i) e at once =
     ∙ standing_of_ended (place + 1) ended i e at (λ j f bt same. let next : suc j ≡ suc i = once (suc j) f bt same in omega (arith, next))
     ∙ ap (λ (p : ℕ). standing_at p e.committed) (omega arith)
 
-standing_of_none : (place : ℕ) (ended : List Ended) (number : ℕ) → ((i : ℕ) (e : Ended) → slice_get ended i ≡ Some e → e.number ≢ number)
+pub standing_of_none : (place : ℕ) (ended : List Ended) (number : ℕ) → ((i : ℕ) (e : Ended) → slice_get ended i ≡ Some e → e.number ≢ number)
     → standing_from place (map outcome_of ended) number ≡ OpenYet
 standing_of_none place [] number none = refl
 standing_of_none place (e ∷ ended) number none =

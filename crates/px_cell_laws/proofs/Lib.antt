@@ -1,0 +1,10 @@
+pub mod Lists
+pub mod Ends
+pub mod Chained
+pub mod Beginning
+pub mod Calling
+pub mod Fitting
+pub mod Writing
+pub mod Ending
+pub mod Showing
+pub mod Small

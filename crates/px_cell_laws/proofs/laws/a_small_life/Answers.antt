@@ -1,0 +1,17 @@
+use Rattle.px_cell_laws.proofs.Small.{begun_holds, committed_holds, committed_shows, new_holds, written_holds}
+use Rattle.px_cell_laws.proofs.laws.a_small_life.Goals as goal
+
+pub returns-clause-new : goal.returns-clause-new
+returns-clause-new c = new_holds
+
+pub returns-clause-begun : goal.returns-clause-begun
+returns-clause-begun c = begun_holds
+
+pub returns-clause-written : goal.returns-clause-written
+returns-clause-written c = written_holds
+
+pub returns-clause-committed : goal.returns-clause-committed
+returns-clause-committed c = committed_holds
+
+pub returns-clause-shown : goal.returns-clause-shown
+returns-clause-shown c = committed_shows

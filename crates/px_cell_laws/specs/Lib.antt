@@ -1,0 +1,4 @@
+pub mod Holding
+pub mod Writing
+pub mod Reading
+pub mod Worked

@@ -1,0 +1,138 @@
+ghost use Rattle.std.specs.Prelude.{◌≡◌, ◌≢◌, ◌<◌, ◌≤◌, ◌+◌, ◌-◌, ℕ, List, [], ◌∷◌, All, None, Some, false, map, option_map, reverse, true};
+ghost use Rattle.px_calls.specs.Steps.{is_refusal, open_of, reply_of, state_after};
+ghost use Rattle.px_calls.specs.declared.call.Call.{Call};
+ghost use Rattle.px_calls.specs.declared.call.Call.TheVariants.{Commit, Rollback};
+ghost use Rattle.px_cells.specs.declared.header.Header.{Header};
+ghost use Rattle.px_cells.specs.declared.slot.Slot.{Slot};
+ghost use Rattle.px_chain.specs.Sound.{IsUsedRow, key_of};
+ghost use Rattle.px_chain_laws.specs.Kept.{IsKept};
+ghost use Rattle.px_chain_laws.specs.Reading.{seen};
+ghost use Rattle.px_chain_laws.specs.Writing as calls;
+ghost use Rattle.px_history.specs.Steps.{IsStep, Step, after_step};
+ghost use Rattle.px_history.specs.Store.{IsOpen, IsTidied, Store, nothing, versions_of};
+ghost use Rattle.px_history.specs.Writers.{HaveOneWriter, IsAlone};
+ghost use Rattle.px_model.specs.Chains.{chain};
+ghost use Rattle.px_model.specs.Machine.{Machine, commits, fresh, published, view};
+ghost use Rattle.px_model.specs.Rows.{Key, in_order, key_written, row_at};
+ghost use Rattle.px_model.specs.declared.machine.Open.{Open};
+ghost use Rattle.px_model.specs.declared.row.Row.{Row};
+ghost use Rattle.px_model.specs.declared.write.Write.{Write};
+ghost use Rattle.px_plain.specs.Seen.{row_left};
+ghost use Rattle.px_shown.specs.Example.{row_with};
+ghost use Rattle.px_shown.specs.Shown.{Shows, write_of};
+ghost use Rattle.px_shown.specs.Tables.{AreSound};
+ghost use Rattle.px_tables.specs.Linking.{FitsSlot, version_of};
+ghost use Rattle.px_xacts.specs.Transactions.{Transactions};
+ghost use Rattle.px_xacts_laws.specs.Mirrors.{Mirrors};
+ghost use Rattle.px_cell_laws.specs.Holding.{HoldsChains, variation_in};
+ghost use Rattle.px_cell_laws.specs.Reading.{slot_seen};
+ghost use Rattle.px_cell_laws.specs.Worked.{begun, body, committed, new_machine, one_row, one_version, written};
+ghost use Rattle.px_cell_laws.specs.Writing.{IsWriteBy, is_end};
+
+/// The versions of a row are the machine's chain of its key, the newest first; a key without a row has no chain.
+pub fn a_key_has_the_chain_of_its_row()
+    ensures row { (m : Machine) (store : Store) (t row : ℕ) → HoldsChains m store → IsUsedRow (store.tables t) row
+        → reverse (chain m (t, key_of (store.tables t) row)) ≡ map (variation_in m.base t) (versions_of store t row) }
+    ensures none { (m : Machine) (store : Store) (key : Key) → HoldsChains m store
+        → ((row : ℕ) → IsUsedRow (store.tables key.0) row → key_of (store.tables key.0) row ≢ key.1)
+        → chain m key ≡ [] }
+{}
+
+/// A transaction that is open may still commit, as may each one that is still to begin.
+pub fn open_transactions_may_commit()
+    ensures begun { (m : Machine) (store : Store) (session : ℕ) (xact : Open) → HoldsChains m store → IsKept m
+        → open_of m session ≡ Some xact → IsOpen store (m.base + xact.number) }
+    ensures unbegun { (m : Machine) (store : Store) (xn : ℕ) → HoldsChains m store → IsKept m → m.base + m.begun < xn
+        → IsOpen store xn }
+{}
+
+/// A store in which nothing is left to tidy holds the chains of a fresh machine with the rows that it shows, where the numbers
+/// of its versions go up to the base, and no transaction past that is done or over. Its rows have no writer.
+pub fn a_tidied_store_holds_a_fresh_machine()
+    ensures chains { (tables short : ℕ) (rows : List Row) (before base : ℕ) (store : Store)
+        → AreSound short store.tables store.layouts → IsTidied store → Shows store.tables store.layouts store.done rows
+        → ((t row : ℕ) → IsUsedRow (store.tables t) row → All (λ slot. slot.xn ≤ base) (versions_of store t row))
+        → ((xn : ℕ) → base < xn → IsOpen store xn) → HoldsChains (fresh tables short rows before base) store }
+    ensures writers { (short : ℕ) (store : Store) → AreSound short store.tables store.layouts → IsTidied store
+        → HaveOneWriter store }
+{}
+
+/// A call that writes and is answered goes with the link of its version: that may follow, no other transaction that may still
+/// commit has a version in that row, and the store after it holds the chains after the call. The write fits a slot, and the version
+/// that a table in memory prepares for it is such a one.
+pub fn a_write_is_a_put()
+    ensures step { (m : Machine) (store : Store) (session : ℕ) (call : Call) (t : ℕ) (header : Header) (slot : Slot)
+        → HoldsChains m store → IsKept m → IsWriteBy m store session call t header slot
+        → IsStep m.short store (Step.put t header slot) }
+    ensures alone { (m : Machine) (store : Store) (session : ℕ) (call : Call) (t : ℕ) (header : Header) (slot : Slot)
+        → HoldsChains m store → IsKept m → IsWriteBy m store session call t header slot
+        → IsAlone store (Step.put t header slot) }
+    ensures chains { (m : Machine) (store : Store) (session : ℕ) (call : Call) (t : ℕ) (header : Header) (slot : Slot)
+        → HoldsChains m store → IsKept m → IsWriteBy m store session call t header slot
+        → HoldsChains (state_after m session call) (after_step store (Step.put t header slot)) }
+    ensures fits { (m : Machine) (session : ℕ) (call : Call) (w : Write) → calls.write_of call ≡ Some w
+        → is_refusal (reply_of m session call) ≡ false → FitsSlot m.short w }
+    ensures version { (xn next row : ℕ) (w : Write) → write_of (key_written w).0 (version_of xn next row w) ≡ w }
+{}
+
+/// An end of a transaction with writes goes with its commit or its rollback: that may follow, and the store after it holds the
+/// chains after the call.
+pub fn an_end_is_a_step()
+    ensures commit { (m : Machine) (store : Store) (session : ℕ) (xact : Open) → HoldsChains m store → IsKept m
+        → HaveOneWriter store → open_of m session ≡ Some xact
+        → IsStep m.short store (Step.commit (m.base + xact.number) (commits m + 1)) }
+    ensures committed { (m : Machine) (store : Store) (session : ℕ) (xact : Open) → HoldsChains m store → IsKept m
+        → open_of m session ≡ Some xact → xact.writes ≢ []
+        → HoldsChains (state_after m session Commit) (after_step store (Step.commit (m.base + xact.number) (commits m + 1))) }
+    ensures rollback { (m : Machine) (store : Store) (session : ℕ) (xact : Open) → HoldsChains m store → IsKept m
+        → open_of m session ≡ Some xact → IsStep m.short store (Step.rollback (m.base + xact.number)) }
+    ensures rolled_back { (m : Machine) (store : Store) (session : ℕ) (xact : Open) → HoldsChains m store → IsKept m
+        → open_of m session ≡ Some xact → xact.writes ≢ []
+        → HoldsChains (state_after m session Rollback) (after_step store (Step.rollback (m.base + xact.number))) }
+{}
+
+/// A begin, a read, a call that is refused and an end of a transaction without writes leave the store as it is, and it holds the
+/// chains after the call.
+pub fn other_calls_leave_the_cells()
+    ensures refused { (m : Machine) (store : Store) (session : ℕ) (call : Call) → HoldsChains m store
+        → is_refusal (reply_of m session call) ≡ true → HoldsChains (state_after m session call) store }
+    ensures reads { (m : Machine) (store : Store) (session : ℕ) (call : Call) → HoldsChains m store → IsKept m
+        → calls.write_of call ≡ None → is_end call ≡ false → HoldsChains (state_after m session call) store }
+    ensures wrote_nothing { (m : Machine) (store : Store) (session : ℕ) (call : Call) (xact : Open)
+        → HoldsChains m store → IsKept m → is_end call ≡ true → open_of m session ≡ Some xact → xact.writes ≡ []
+        → HoldsChains (state_after m session call) store }
+{}
+
+/// The cells show the rows that are committed now.
+pub fn committed_rows_are_shown()
+    ensures { (m : Machine) (store : Store) → HoldsChains m store → IsKept m → in_order m.opening ≡ true
+        → Shows store.tables store.layouts store.done (published m (commits m - m.before)) }
+{}
+
+/// The slot of a row that a transaction sees holds what it sees of the key's chain, and has the row of its view. What became of
+/// the writers is what the store's transactions know. A key without a row has none in the view.
+pub fn a_reader_sees_its_view_in_the_cells()
+    ensures variation { (m : Machine) (all : Transactions) (store : Store) (xact : Open) (t row : ℕ)
+        → HoldsChains m store → Mirrors m all → IsUsedRow (store.tables t) row
+        → option_map (λ slot. variation_in m.base t ((store.tables t).slot slot)) (slot_seen all store (m.base + xact.number) xact.snap t row)
+        ≡ seen m xact (t, key_of (store.tables t) row) }
+    ensures row { (m : Machine) (all : Transactions) (store : Store) (session : ℕ) (xact : Open) (t row : ℕ)
+        → HoldsChains m store → IsKept m → Mirrors m all → open_of m session ≡ Some xact
+        → IsUsedRow (store.tables t) row
+        → row_left None (option_map (λ slot. write_of t ((store.tables t).slot slot)) (slot_seen all store (m.base + xact.number) xact.snap t row))
+        ≡ row_at (t, key_of (store.tables t) row) (view m xact) }
+    ensures none { (m : Machine) (store : Store) (session : ℕ) (xact : Open) (key : Key) → HoldsChains m store
+        → IsKept m → open_of m session ≡ Some xact
+        → ((row : ℕ) → IsUsedRow (store.tables key.0) row → key_of (store.tables key.0) row ≢ key.1)
+        → row_at key (view m xact) ≡ None }
+{}
+
+/// A new store holds the chains of a new machine. Once a transaction has begun it still does; with its version linked it does so
+/// after the write, and with its commit after that, and then it shows the row.
+pub fn a_small_life()
+    ensures new { HoldsChains new_machine nothing }
+    ensures begun { HoldsChains begun nothing }
+    ensures written { HoldsChains written one_version }
+    ensures committed { HoldsChains committed one_row }
+    ensures shown { Shows one_row.tables one_row.layouts one_row.done (row_with body ∷ []) }
+{}
