@@ -6,7 +6,7 @@ ghost use Rattle.px_tables.specs.Keys.{HasNoRow, IsRowOf};
 
 use super::Table;
 use crate::versions::Versions;
-use px_cells::{Header, Slot};
+use px_cells::{Header, Pointer, Slot};
 
 impl Table {
     pub fn header(&self) -> Header
@@ -28,6 +28,14 @@ impl Table {
         ensures { result.now ≡ (table_of self.now.cells).slot number }
     {
         &self.slots[number as usize]
+    }
+
+    /// The row pointer with this number.
+    pub fn pointer(&self, row: u32) -> Pointer
+        requires { row ≤ self.now.cells.header.rows }
+        ensures { result ≡ (table_of self.now.cells).pointer row }
+    {
+        self.pointers[row as usize]
     }
 
     /// The versions of a row, the newest first.
