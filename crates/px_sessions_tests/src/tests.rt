@@ -1,99 +1,152 @@
 use crate::drawn::Drawn;
-use px_calls::{Reply, reply_text};
-use px_model::{Bytes, MOST_WRITES, Row, RowList, Session};
-use px_plain::Plain;
+use crate::machines::{Machine, plain, sessions};
+use px_calls::Call;
+use px_model::{Bytes, MOST_WRITES, Session};
 use px_sessions::Sessions;
 use std::alloc::Global;
+use std::process::Abort;
 use std::test::Fail;
 
 /// How many calls are drawn of each seed.
-const CALLS: u32 = 500;
+const CALLS: usize = 500;
 
-/// The longest body that the stores of these tests take.
-const SHORT: u32 = 4;
-
-/// Two tables, the first with a row.
-fn opening(alloc: Global) -> Result<RowList, Fail> {
-    let mut rows = RowList::new(alloc);
-    rows.push(Row {
-        table: 1,
-        key: Bytes::from_slice(alloc, &[2])?,
-        tag: 1,
-        body: Bytes::from_slice(alloc, &[9])?,
-    })?;
-    Ok(rows)
+fn line_of(alloc: Global, reply: &str, writer: Option<u64>) -> Result<String, Fail> {
+    Ok(format!(in alloc; "{reply}{writer:?}")?)
 }
 
-fn text_of(alloc: Global, reply: &Reply) -> Result<String, Fail> {
-    let mut text = Vec::new(alloc);
-    reply_text(reply, &mut text)?;
-    Ok(String::from_utf8(text)?)
+/// The reply to a call that is drawn, and behind it the stored number of its session's transaction.
+fn drawn_line(
+    alloc: Global,
+    machine: &mut impl Machine,
+    drawn: &mut Drawn,
+) -> Result<String, Fail> {
+    let session = drawn.session()?;
+    let call = drawn.call(alloc)?;
+    let reply = machine.answer(alloc, session, &call)?;
+    line_of(alloc, &reply, machine.writer(session))
+}
+
+/// How many commits there are, and the rows after them.
+fn last_line(alloc: Global, machine: &impl Machine) -> Result<String, Fail> {
+    let rows = machine.rows(alloc)?;
+    let commits = machine.count();
+    Ok(format!(in alloc; "{commits}\n{rows}")?)
+}
+
+/// A line for each call that is drawn of the seed, and one for what there is in the end.
+fn transcript(alloc: Global, machine: &mut impl Machine, seed: u64) -> Result<Vec<String>, Fail> {
+    let mut drawn = Drawn::of(seed);
+    let mut told = Vec::new(alloc);
+    for _ in 0..CALLS {
+        told.push(drawn_line(alloc, machine, &mut drawn)?)?;
+    }
+    told.push(last_line(alloc, machine)?)?;
+    Ok(told)
+}
+
+fn plain_transcript(alloc: Global, seed: u64) -> Result<Vec<String>, Fail> {
+    transcript(alloc, &mut plain(alloc)?, seed)
+}
+
+fn sessions_transcript(alloc: Global, seed: u64) -> Result<Vec<String>, Fail> {
+    transcript(alloc, &mut sessions(alloc)?, seed)
+}
+
+fn compare(rt: &impl Abort, seed: u64, got: &[String], want: &[String]) {
+    assert_eq!(rt; got.len(), CALLS + 1);
+    assert_eq!(rt; want.len(), CALLS + 1);
+    for (made, (got, want)) in got.iter().zip(want.iter()).enumerate() {
+        assert_eq!(rt; got.as_str(), want.as_str(), "call {made} of seed {seed}");
+    }
 }
 
 #[test]
 fn both_answer_alike(rt: HostRuntime) -> Result<(), Fail> {
     let alloc = rt.alloc();
     for seed in [1, 20, 300, 4000] {
-        let mut drawn = Drawn::of(seed);
-        let mut plain = Plain::new(alloc, 2, SHORT, opening(alloc)?, 1, 5)?;
-        let mut sessions = Sessions::new(alloc, 2, SHORT, opening(alloc)?, 1, 5)?;
-        for made in 0..CALLS {
-            let session = drawn.session()?;
-            let call = drawn.call(alloc)?;
-            let want = text_of(alloc, &plain.step(session, &call)?)?;
-            let got = text_of(alloc, &sessions.step(session, &call)?)?;
-            assert_eq!(rt; got.as_str(), want.as_str(), "call {made} of seed {seed}");
-            assert_eq!(rt;
-                sessions.stored_writer(session),
-                plain.stored_writer(session)
-            );
-        }
-        assert_eq!(rt; sessions.commits(), plain.commits());
-        let mut want = Vec::new(alloc);
-        reply_text(&Reply::Rows(plain.published(plain.commits())?), &mut want)?;
-        let mut got = Vec::new(alloc);
-        reply_text(
-            &Reply::Rows(sessions.published(sessions.commits())?),
-            &mut got,
-        )?;
-        assert_eq!(rt; got.as_slice(), want.as_slice());
+        let got = sessions_transcript(alloc, seed)?;
+        let want = plain_transcript(alloc, seed)?;
+        compare(&rt, seed, &got, &want);
     }
     Ok(())
+}
+
+/// The store answers that to the call.
+fn check(
+    rt: &impl Abort,
+    alloc: Global,
+    store: &mut Sessions,
+    session: Session,
+    call: Call,
+    want: &str,
+) -> Result<(), Fail> {
+    let reply = store.answer(alloc, session, &call)?;
+    assert_eq!(rt; reply.as_str(), want);
+    Ok(())
+}
+
+/// An update of the row that there is at the opening.
+fn update(alloc: Global, tag: u32) -> Result<Call, Fail> {
+    Ok(Call::Update {
+        table: 1,
+        key: Bytes::from_slice(alloc, &[2])?,
+        tag,
+        body: Bytes::new(alloc),
+    })
+}
+
+/// The deletion of that row.
+fn deletion(alloc: Global) -> Result<Call, Fail> {
+    Ok(Call::Delete {
+        table: 1,
+        key: Bytes::from_slice(alloc, &[2])?,
+    })
+}
+
+fn take_back(rt: &impl Abort, alloc: Global, store: &mut Sessions) -> Result<(), Fail> {
+    let one = Session::of(0).ok_or("no session")?;
+    let other = Session::of(1).ok_or("no session")?;
+    check(rt, alloc, store, one, Call::Begin, "began 1\n")?;
+    check(rt, alloc, store, other, Call::Begin, "began 2\n")?;
+    check(rt, alloc, store, one, update(alloc, 3)?, "updated\n")?;
+    check(rt, alloc, store, one, deletion(alloc)?, "deleted\n")?;
+    store.unwrite(one);
+    check(rt, alloc, store, other, update(alloc, 4)?, "conflict 1\n")?;
+    store.unwrite(one);
+    check(rt, alloc, store, other, update(alloc, 4)?, "updated\n")
 }
 
 /// A write that was taken back holds its key no more, unless an earlier one does.
 #[test]
 fn a_write_is_taken_back(rt: HostRuntime) -> Result<(), Fail> {
     let alloc = rt.alloc();
-    let mut sessions = Sessions::new(alloc, 2, SHORT, opening(alloc)?, 1, 5)?;
-    let one = Session::of(0).ok_or("no session")?;
-    let other = Session::of(1).ok_or("no session")?;
-    let _began = sessions.begin(one)?;
-    let _began = sessions.begin(other)?;
-    let _first = sessions.update(one, 1, &[2], 3, &[])?;
-    let _second = sessions.delete(one, 1, &[2])?;
-    sessions.unwrite(one);
-    let kept = text_of(alloc, &sessions.update(other, 1, &[2], 4, &[])?)?;
-    assert_eq!(rt; kept.as_str(), "conflict 1\n");
-    sessions.unwrite(one);
-    let freed = text_of(alloc, &sessions.update(other, 1, &[2], 4, &[])?)?;
-    assert_eq!(rt; freed.as_str(), "updated\n");
-    Ok(())
+    take_back(&rt, alloc, &mut sessions(alloc)?)
+}
+
+/// The insertion of a row with that key.
+fn insertion(alloc: Global, key: &[u8]) -> Result<Call, Fail> {
+    Ok(Call::Insert {
+        table: 2,
+        key: Bytes::from_slice(alloc, key)?,
+        tag: 0,
+        body: Bytes::new(alloc),
+    })
+}
+
+fn fill_up(rt: &impl Abort, alloc: Global, store: &mut Sessions) -> Result<(), Fail> {
+    let session = Session::of(0).ok_or("no session")?;
+    check(rt, alloc, store, session, Call::Begin, "began 1\n")?;
+    for made in 0..MOST_WRITES as u32 {
+        let insertion = insertion(alloc, &made.to_be_bytes())?;
+        check(rt, alloc, store, session, insertion, "inserted\n")?;
+    }
+    let insertion = insertion(alloc, &[1])?;
+    check(rt, alloc, store, session, insertion, "limit writes\n")
 }
 
 /// A transaction takes 10,000 writes and no more, and each is quick.
 #[test]
 fn a_transaction_fills_up(rt: HostRuntime) -> Result<(), Fail> {
     let alloc = rt.alloc();
-    let session = Session::of(0).ok_or("no session")?;
-    let mut sessions = Sessions::new(alloc, 2, SHORT, opening(alloc)?, 1, 5)?;
-    let _began = sessions.begin(session)?;
-    for made in 0..MOST_WRITES as u32 {
-        let key = made.to_be_bytes();
-        let got = text_of(alloc, &sessions.insert(session, 2, &key, 0, &[])?)?;
-        assert_eq!(rt; got.as_str(), "inserted\n");
-    }
-    let got = text_of(alloc, &sessions.insert(session, 2, &[1], 0, &[])?)?;
-    assert_eq!(rt; got.as_str(), "limit writes\n");
-    Ok(())
+    fill_up(&rt, alloc, &mut sessions(alloc)?)
 }
