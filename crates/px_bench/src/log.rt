@@ -7,7 +7,8 @@ use px_model::{Bytes, Row, Write};
 use px_realsite::RealSite;
 use px_restart::Restart;
 use px_site::Site;
-use px_xlog::{Change, LogError, Xlog, open_log};
+use px_told::Change;
+use px_xlog::{LogError, Xlog, open_log};
 use std::alloc::{AllocError, Global};
 use std::time::CpuClock;
 

@@ -28,3 +28,11 @@ fold_fits (b ∷ bytes) sum fits = fold_fits bytes (fnv_step sum b) (mod_below _
 pub fnv_of_fits : (bytes : List ℕ) → fnv_of bytes < 2 ^ 32
 unfolding fnv_of
 fnv_of_fits bytes = fold_fits bytes FNV_OFFSET (omega arith)
+
+-- ---- one field after the other
+
+pub u32_then : (n : ℕ) (bytes rest tail : List ℕ) → bytes ≡ to_be_bytes w32 n ++ rest → rest ≡ tail → bytes ≡ to_be_bytes w32 n ++ tail
+u32_then n bytes rest tail e f = e ∙ ap (λ (x : List ℕ). to_be_bytes w32 n ++ x) f
+
+pub u64_then : (n : ℕ) (bytes rest tail : List ℕ) → bytes ≡ to_be_bytes w64 n ++ rest → rest ≡ tail → bytes ≡ to_be_bytes w64 n ++ tail
+u64_then n bytes rest tail e f = e ∙ ap (λ (x : List ℕ). to_be_bytes w64 n ++ x) f

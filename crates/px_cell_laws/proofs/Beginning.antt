@@ -7,7 +7,7 @@ use Rattle.px_calls.specs.Steps.{open_of}
 use Rattle.px_cells.specs.declared.slot.Slot.{Slot}
 use Rattle.px_cells.specs.declared.slot.SlotState.{SlotState}
 use Rattle.px_cells.specs.declared.slot.SlotState.TheVariants as state
-use Rattle.px_cells.specs.declared.standing.Standing.TheVariants.{Before, Open as OpenYet}
+use Rattle.px_model.specs.declared.standing.Standing.TheVariants.{Before, Open as OpenYet}
 use Rattle.px_chain.specs.Sound.{IsUsedRow, key_of}
 use Rattle.px_chain_laws.specs.Kept.{IsKept}
 use Rattle.px_chain_laws.specs.Reading.{is_committed, standing_in}
@@ -22,7 +22,7 @@ use Rattle.px_model.specs.Rows.{Key, row_at}
 use Rattle.px_model.specs.declared.machine.Open.{Open}
 use Rattle.px_model.specs.declared.machine.Variation.{Variation}
 use Rattle.px_model.specs.declared.row.Row.{Row}
-use Rattle.px_plain.specs.Seen.{row_left}
+use Rattle.px_machine_laws.specs.Seen.{row_left}
 use Rattle.px_shown.specs.Shown.{Done, Shows, row_of, row_shown, write_in, write_of}
 use Rattle.px_shown.specs.Tables.{AreSound}
 use Rattle.px_shown.specs.Writes.{HasNoneOf}

@@ -7,7 +7,7 @@ use Rattle.px_calls.specs.declared.call.Call.{Call}
 use Rattle.px_calls.specs.declared.call.Call.TheVariants.{Begin, Get, Hold, Fetch, Find, Scan, Insert, Update, Delete as DeleteCall, Commit, Rollback}
 use Rattle.px_calls.specs.Steps.{entry_of, is_refusal, open_of, reply_of, state_after, state_when_done}
 use Rattle.px_cells.specs.declared.slot.Slot.{Slot}
-use Rattle.px_cells.specs.declared.standing.Standing.TheVariants.{Before}
+use Rattle.px_model.specs.declared.standing.Standing.TheVariants.{Before}
 use Rattle.px_chain.specs.Sound.{key_of}
 use Rattle.px_chain_laws.specs.Kept.{IsKept}
 use Rattle.px_chain_laws.specs.Reading.{is_committed, standing_in}

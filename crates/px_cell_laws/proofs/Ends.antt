@@ -11,7 +11,7 @@ use Rattle.px_calls.specs.declared.call.Call.{Call}
 use Rattle.px_calls.specs.declared.call.Call.TheVariants.{Begin, Get, Hold, Fetch, Find, Scan, Insert, Update, Delete as DeleteCall, Commit, Rollback}
 use Rattle.px_calls.specs.declared.reply.Reply.TheVariants.{Committed as CommittedReply, EndedEmpty, RolledBack as RolledBackReply}
 use Rattle.px_calls.specs.Steps.{closed, entries_of, entry_of, if_open, is_refusal, open_of, reply_of, state_after, state_when_done}
-use Rattle.px_cells.specs.declared.standing.Standing.TheVariants.{Before, Open as OpenYet}
+use Rattle.px_model.specs.declared.standing.Standing.TheVariants.{Before, Open as OpenYet}
 use Rattle.px_xacts.specs.declared.transaction.Outcome.{Outcome}
 use Rattle.px_xacts.specs.Transactions.{standing_at, standing_from}
 use Rattle.px_xacts.proofs.Standings.{standing_from-push_other, standing_from-push_same}

@@ -10,8 +10,8 @@ use Rattle.std.proofs.Math.Seq.{take-length}
 use Rattle.px_calls.specs.Steps.{open_of}
 use Rattle.px_calls.proofs.EveryMachine.{new_transaction_sees_all}
 use Rattle.px_cells.specs.declared.slot.Slot.{Slot}
-use Rattle.px_cells.specs.declared.standing.Standing.{Standing}
-use Rattle.px_cells.specs.declared.standing.Standing.TheVariants.{Before}
+use Rattle.px_model.specs.declared.standing.Standing.{Standing}
+use Rattle.px_model.specs.declared.standing.Standing.TheVariants.{Before}
 use Rattle.px_chain.specs.Sound.{IsUsedRow, key_of}
 use Rattle.px_chain.specs.Table.{Table}
 use Rattle.px_chain.specs.Visible.{is_done, is_visible}
@@ -32,8 +32,8 @@ use Rattle.px_model.specs.declared.machine.Open.{Open}
 use Rattle.px_model.specs.declared.machine.Variation.{Variation}
 use Rattle.px_model_laws.proofs.BaseRows.{left_by}
 use Rattle.px_model_laws.proofs.Laws.{rows_stay_in_order}
-use Rattle.px_plain.specs.Seen.{row_left}
-use Rattle.px_plain.proofs.Seen.{row_at-committed}
+use Rattle.px_machine_laws.specs.Seen.{row_left}
+use Rattle.px_machine_laws.proofs.Seen.{row_at-committed}
 use Rattle.px_shown.specs.Shown.{Shows, row_shown, write_of}
 use Rattle.px_xacts.specs.Transactions.{Transactions, standing_from}
 use Rattle.px_xacts_laws.specs.Mirrors.{Mirrors, outcome_of}

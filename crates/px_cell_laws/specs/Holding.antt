@@ -1,8 +1,8 @@
 -- That the cells of a store hold the chains of a machine.
 use Rattle.std.specs.Prelude.{◌≡◌, ℕ, ◌<◌, ◌≤◌, nat_le, Bool, true, false, List, [], ◌∷◌, All, map, reverse, Option, Some, None, if◌then◌else◌}
 use Rattle.px_cells.specs.declared.slot.Slot.{Slot}
-use Rattle.px_cells.specs.declared.standing.Standing.{Standing}
-use Rattle.px_cells.specs.declared.standing.Standing.TheVariants.{Before, Open, RolledBack, Committed}
+use Rattle.px_model.specs.declared.standing.Standing.{Standing}
+use Rattle.px_model.specs.declared.standing.Standing.TheVariants.{Before, Open, RolledBack, Committed}
 use Rattle.px_model.specs.declared.machine.Variation.{Variation}
 use Rattle.px_model.specs.Rows.{Key}
 use Rattle.px_model.specs.Machine.{Machine}

@@ -17,7 +17,7 @@ ghost use Rattle.px_model.specs.Rows.{Key, in_order, key_written, row_at};
 ghost use Rattle.px_model.specs.declared.machine.Open.{Open};
 ghost use Rattle.px_model.specs.declared.row.Row.{Row};
 ghost use Rattle.px_model.specs.declared.write.Write.{Write};
-ghost use Rattle.px_plain.specs.Seen.{row_left};
+ghost use Rattle.px_machine_laws.specs.Seen.{row_left};
 ghost use Rattle.px_shown.specs.Example.{row_with};
 ghost use Rattle.px_shown.specs.Shown.{Shows, write_of};
 ghost use Rattle.px_shown.specs.Tables.{AreSound};

@@ -1,8 +1,8 @@
 -- Which slots a store with a short length may have (docs/FORMATS.md, 'Cells').
 use Rattle.std.specs.Prelude.{ℕ, Bool, ◌&&◌, ◌||◌, ◌==◌, nat_le, length, min, if◌then◌else◌}
 use Rattle.px_model.specs.declared.limits.TheConstants.{LONGEST_KEY}
-use Rattle.px_restart.specs.declared.restart.TheConstants.{SHORTEST_SHORT, LONGEST_SHORT}
-use Rattle.px_cells.specs.declared.limits.TheConstants.{LONGEST_BODY}
+use Rattle.px_model.specs.declared.limits.TheConstants.{SHORTEST_SHORT, LONGEST_SHORT}
+use Rattle.px_model.specs.declared.limits.TheConstants.{LONGEST_BODY}
 use Rattle.px_cells.specs.declared.slot.Slot.{Slot}
 use Rattle.px_cells.specs.declared.slot.SlotState.{SlotState}
 use Rattle.px_cells.specs.declared.slot.SlotState.TheVariants.{Free, Row, Deletion}

@@ -6,7 +6,6 @@
 //!
 //! - `header`, `pointer`, `slot`: the three kinds of cell. `specs/Form` says which slots a store may have.
 //! - `cell`: a cell's bytes with its name, as the log carries them.
-//! - `standing`: what became of the transaction that wrote a slot.
 //!
 //! The format is in docs/FORMATS.md, 'Cells'.
 #![tactic(auto)]
@@ -16,11 +15,9 @@ mod header;
 mod limits;
 mod pointer;
 mod slot;
-mod standing;
 
 pub use cell::{Cell, CellKind, CellList};
 pub use header::Header;
-pub use limits::{HEADER_SIZE, LONGEST_BODY, POINTER_SIZE, SLOT_HEAD_SIZE};
+pub use limits::{HEADER_SIZE, POINTER_SIZE, SLOT_HEAD_SIZE};
 pub use pointer::Pointer;
 pub use slot::{Slot, SlotState};
-pub use standing::Standing;

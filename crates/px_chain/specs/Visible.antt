@@ -1,7 +1,7 @@
 -- Which variation of a chain a reader sees.
 use Rattle.std.specs.Prelude.{ℕ, Bool, true, false, ◌==◌, ◌||◌, nat_lt}
-use Rattle.px_cells.specs.declared.standing.Standing.{Standing}
-use Rattle.px_cells.specs.declared.standing.Standing.TheVariants.{Before, Open, RolledBack, Committed}
+use Rattle.px_model.specs.declared.standing.Standing.{Standing}
+use Rattle.px_model.specs.declared.standing.Standing.TheVariants.{Before, Open, RolledBack, Committed}
 use Rattle.px_chain.specs.declared.views.SlotView.{SlotView}
 
 -- it was done before the reader began

@@ -3,7 +3,7 @@ ghost use Rattle.std.specs.Option.{option_map};
 ghost use Rattle.px_chain.specs.declared.views.SlotView.{SlotView};
 ghost use Rattle.px_chain.specs.Visible.{is_done, is_visible};
 
-use px_cells::Standing;
+use px_model::Standing;
 
 /// What a reader needs of a slot in a chain: its number, the stored number of the transaction that wrote it, and what became
 /// of that.

@@ -11,7 +11,7 @@ use Rattle.px_model.specs.Rows.{Key, same_key, key_written, has_write_of}
 use Rattle.px_model.specs.Machine.{flat_of, flat_from}
 use Rattle.px_model.specs.Chains.{last_committed}
 use Rattle.px_calls.specs.Steps.{last_writer}
-use Rattle.px_plain.specs.Seen.{last_of_key, last_committed_of}
+use Rattle.px_machine_laws.specs.Seen.{last_of_key, last_committed_of}
 use Rattle.px_chain_laws.proofs.Looking.{last_committed-append}
 
 abbrev flat_by : (place number : ℕ) (committed : Bool) → Write → Flat

@@ -18,10 +18,10 @@ use Rattle.px_calls.specs.declared.reply.Reply.TheVariants.{Swept, Idle}
 use Rattle.px_calls.specs.Steps.{open_of, with_slot, plus_write, plus_kept, entry_of, entries_of, closed, new_transaction, reply_of, state_when_done, state_after}
 use Rattle.px_calls.specs.Sweeps.{due_below, sweep_reply, counts_sweep, swept_state}
 use Rattle.px_calls.specs.Histories.{Step, by, sweep, step_state, machine_after}
-use Rattle.px_plain.specs.Begun.{WereBegun}
-use Rattle.px_plain.proofs.Begun.{begun-none, begun-changed, begun-closed, begun-one_more}
-use Rattle.px_plain.proofs.Overlap.{Sound}
-use Rattle.px_plain.proofs.EveryHistory.{after_call, sound_at_first}
+use Rattle.px_machine_laws.specs.Begun.{WereBegun}
+use Rattle.px_machine_laws.proofs.Begun.{begun-none, begun-changed, begun-closed, begun-one_more}
+use Rattle.px_machine_laws.proofs.Overlap.{Sound}
+use Rattle.px_machine_laws.proofs.EveryHistory.{after_call, sound_at_first}
 use Rattle.px_xacts.proofs.Lists.{slot_cases, push_cases}
 use Rattle.px_xacts_laws.proofs.Mirroring.{flat_from-append}
 use Rattle.px_chain_laws.specs.Kept.{AreNumbered, HaveOwnKeys, KeepsSnapshots, IsKept}

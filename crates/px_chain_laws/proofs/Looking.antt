@@ -12,7 +12,7 @@ use Rattle.px_model.specs.declared.machine.Open.{Open}
 use Rattle.px_model.specs.declared.machine.Variation.{Variation}
 use Rattle.px_model.specs.Rows.{Key, same_key, key_written}
 use Rattle.px_model.specs.Chains.{last_committed, of_ended, of_slot, of_key}
-use Rattle.px_plain.specs.Seen.{last_of_key}
+use Rattle.px_machine_laws.specs.Seen.{last_of_key}
 
 abbrev pub last : {X : Type 0} → (X → Bool) → List X → Option X
 last test xs = find test (reverse xs)

@@ -24,7 +24,7 @@ use Rattle.px_calls.specs.declared.reply.Reply.{Reply}
 use Rattle.px_calls.specs.declared.reply.Reply.TheVariants.{Began, OpenAlready, LimitBegins, NoTable, LimitKey, LimitBody, LimitWrites, Conflict}
 use Rattle.px_calls.specs.Steps as steps
 use Rattle.px_calls.specs.Steps.{open_of, open_writer, last_writer, conflict_of, write_refusal, with_slot, with_write, plus_write, plus_kept, entry_of, entries_of, closed, new_transaction, if_open, is_refusal, reply_of, state_when_done, state_after}
-use Rattle.px_plain.proofs.Overlap.{option_or_none}
+use Rattle.px_machine_laws.proofs.Overlap.{option_or_none}
 use Rattle.px_xacts.proofs.Lists.{slot_cases}
 use Rattle.px_xacts_laws.proofs.Mirroring.{flat_from-append}
 use Rattle.px_chain_laws.specs.Kept.{IsKept}

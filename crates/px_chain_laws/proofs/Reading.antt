@@ -18,9 +18,9 @@ use Rattle.px_model_laws.specs.Keys.{row_written}
 use Rattle.px_model_laws.proofs.BaseRows.{left_by}
 use Rattle.px_model_laws.proofs.Laws.{rows_are_their_answers, views_are_in_order}
 use Rattle.px_calls.specs.Steps.{open_of, open_writer, last_writer, conflict_of}
-use Rattle.px_plain.specs.Seen.{last_of_key, row_left}
-use Rattle.px_plain.proofs.Seen.{row_at-view}
-use Rattle.px_cells.specs.declared.standing.Standing.TheVariants.{Open as OpenYet}
+use Rattle.px_machine_laws.specs.Seen.{last_of_key, row_left}
+use Rattle.px_machine_laws.proofs.Seen.{row_at-view}
+use Rattle.px_model.specs.declared.standing.Standing.TheVariants.{Open as OpenYet}
 use Rattle.px_chain.specs.Visible.{is_done}
 use Rattle.px_xacts.specs.Transactions.{standing_at}
 use Rattle.px_xacts.proofs.Standings.{ended_not_open}

@@ -7,7 +7,7 @@ use Rattle.px_model.specs.declared.machine.Ended.{Ended}
 use Rattle.px_model.specs.declared.machine.Flat.{Flat}
 use Rattle.px_model.specs.declared.machine.Open.{Open}
 use Rattle.px_model.specs.Machine.{Machine, flat}
-use Rattle.px_cells.specs.declared.standing.Standing.TheVariants.{Before, Open as OpenYet}
+use Rattle.px_model.specs.declared.standing.Standing.TheVariants.{Before, Open as OpenYet}
 use Rattle.px_xacts.specs.declared.transaction.Outcome.{Outcome}
 use Rattle.px_xacts.specs.Transactions.{Transactions, standing, standing_at, standing_from}
 use Rattle.px_xacts_laws.specs.Mirrors.{Mirrors, outcome_of}

@@ -6,7 +6,7 @@ use Rattle.px_model.specs.Rows.{Key, has_write_of}
 use Rattle.px_model.specs.Machine.{Machine, flat}
 use Rattle.px_calls.specs.Histories.{FirstCommitterWins}
 use Rattle.px_calls.specs.Steps.{open_of}
-use Rattle.px_plain.specs.Begun.{WereBegun}
+use Rattle.px_machine_laws.specs.Begun.{WereBegun}
 
 -- the numbers of the open and of the ended transactions were given out, each once
 pub record AreNumbered (begun : ℕ) (ended : List Ended) (active : List (Option Open)) : Type 0 where

@@ -7,8 +7,8 @@ use Rattle.px_model.specs.Rows.{Key}
 use Rattle.px_model.specs.Machine.{Machine}
 use Rattle.px_model.specs.Chains.{chain}
 use Rattle.px_model_laws.specs.Keys.{row_written}
-use Rattle.px_cells.specs.declared.standing.Standing.{Standing}
-use Rattle.px_cells.specs.declared.standing.Standing.TheVariants.{Before, Open as OpenYet, RolledBack, Committed}
+use Rattle.px_model.specs.declared.standing.Standing.{Standing}
+use Rattle.px_model.specs.declared.standing.Standing.TheVariants.{Before, Open as OpenYet, RolledBack, Committed}
 use Rattle.px_chain.specs.Visible.{is_done}
 use Rattle.px_xacts.specs.Transactions.{standing_from}
 use Rattle.px_xacts_laws.specs.Mirrors.{outcome_of}

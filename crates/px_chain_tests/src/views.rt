@@ -1,5 +1,5 @@
-use px_cells::Standing;
 use px_chain::{SlotView, visible};
+use px_model::Standing;
 
 const fn view(slot: u32, xn: u64, standing: Standing) -> SlotView {
     SlotView { slot, xn, standing }

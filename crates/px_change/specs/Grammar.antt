@@ -6,7 +6,7 @@ use Rattle.px_cells.specs.declared.cell.Cell.{Cell}
 use Rattle.px_cells.specs.declared.cell.CellKind.{CellKind}
 use Rattle.px_cells.specs.declared.cell.CellKind.TheVariants.{Header, Slot, Pointer}
 use Rattle.px_cells.specs.declared.limits.TheConstants.{HEADER_SIZE, SLOT_HEAD_SIZE, POINTER_SIZE}
-use Rattle.px_restart.specs.declared.restart.TheConstants.{MOST_TABLES, TRANSACTION_LIMIT}
+use Rattle.px_model.specs.declared.limits.TheConstants.{MOST_TABLES, STORED_NUMBERS_END}
 use Rattle.px_change.specs.declared.change.Change.{Change}
 use Rattle.px_change.specs.declared.change.ChangeKind.{ChangeKind}
 use Rattle.px_change.specs.declared.change.ChangeKind.TheVariants.{Put, Commit, Rollback, Sweep, Move, Tidy}
@@ -79,7 +79,7 @@ has_commit kind commit = commit == 0
 
 -- the stored numbers of transactions
 abbrev pub is_stored : ℕ → Bool
-is_stored xn = nat_le 1 xn && nat_lt xn TRANSACTION_LIMIT
+is_stored xn = nat_le 1 xn && nat_lt xn STORED_NUMBERS_END
 
 unfoldable pub is_change : (short : ℕ) → Change → Bool
 is_change short change =

@@ -6,7 +6,7 @@ use crate::codes::code_of_cell;
 use crate::limits::{LEAST_UNLINKING, MOST_CELLS};
 use crate::{Change, ChangeKind};
 use px_cells::{Cell, CellKind, HEADER_SIZE, POINTER_SIZE, SLOT_HEAD_SIZE};
-use px_restart::{LONGEST_SHORT, MOST_TABLES, SHORTEST_SHORT, TRANSACTION_LIMIT};
+use px_model::{LONGEST_SHORT, MOST_TABLES, SHORTEST_SHORT, STORED_NUMBERS_END};
 
 /// Whether a store with that short length may have the change.
 #[tactic(auto, unfolding(crate::specs::Grammar::is_change))]
@@ -24,7 +24,7 @@ pub fn is_in_grammar(change: &Change, short: u32) -> bool
 fn is_stored_number(xn: u64) -> bool
     ensures { result ≡ is_stored xn }
 {
-    1 <= xn && xn < TRANSACTION_LIMIT
+    1 <= xn && xn < STORED_NUMBERS_END
 }
 
 fn is_commit_of(kind: ChangeKind, commit: u64) -> bool

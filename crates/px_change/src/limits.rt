@@ -1,7 +1,7 @@
 // How many cells and bytes a change has.
 
 use px_cells::SLOT_HEAD_SIZE;
-use px_restart::LONGEST_SHORT;
+use px_model::LONGEST_SHORT;
 
 /// A change has this many cells at most.
 pub const MOST_CELLS: usize = 4;

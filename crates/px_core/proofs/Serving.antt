@@ -8,10 +8,11 @@ use Rattle.px_calls.specs.declared.call.Call.{Call}
 use Rattle.px_calls.specs.declared.call.Call.TheVariants.{Commit, Rollback}
 use Rattle.px_calls.specs.declared.reply.Reply.{Reply}
 use Rattle.px_calls.specs.Steps.{reply_of, state_after}
-use Rattle.px_plain.specs.Writers.{writer_of}
-use Rattle.px_xlog.specs.declared.change.Change.{Change}
-use Rattle.px_xlog.specs.declared.change.Change.TheVariants.{Commit as CommitChange}
-use Rattle.px_xlog.specs.Log.{Log, HasFirst, IsLogOf, full_at, is_end, with_frame}
+use Rattle.px_machine_laws.specs.Writers.{writer_of}
+use Rattle.px_told.specs.declared.change.Change.{Change}
+use Rattle.px_told.specs.declared.change.Change.TheVariants.{Commit as CommitChange}
+use Rattle.px_xlog.specs.Log.{Log, HasFirst, IsLogOf, full_at, with_frame}
+use Rattle.px_told.specs.Changes.{is_end}
 use Rattle.px_xlog.specs.Payload.{may_hold}
 use Rattle.px_xlog.specs.Reading.{the_log}
 use Rattle.px_logged.specs.Fitting.{Fits, tag_of}

@@ -9,10 +9,10 @@ use Rattle.px_model.specs.Machine.{Machine, commits}
 use Rattle.px_calls.specs.declared.call.Call.{Call}
 use Rattle.px_calls.specs.declared.call.Call.TheVariants.{Begin, Get, Hold, Fetch, Find, Scan, Insert, Update, Delete, Commit, Rollback}
 use Rattle.px_calls.specs.Steps.{open_of, is_refusal, reply_of, state_after, with_write}
-use Rattle.px_plain.specs.Writers.{writer_of, last_write_of}
-use Rattle.px_plain.proofs.Writers.{written_last, written_by, writer_some, writer_none}
-use Rattle.px_xlog.specs.declared.change.Change.{Change}
-use Rattle.px_xlog.specs.declared.change.Change.TheVariants.{Put, Commit as CommitChange, Rollback as RollbackChange}
+use Rattle.px_machine_laws.specs.Writers.{writer_of, last_write_of}
+use Rattle.px_machine_laws.proofs.Writers.{written_last, written_by, writer_some, writer_none}
+use Rattle.px_told.specs.declared.change.Change.{Change}
+use Rattle.px_told.specs.declared.change.Change.TheVariants.{Put, Commit as CommitChange, Rollback as RollbackChange}
 use Rattle.px_xlog.specs.Log.{Log}
 use Rattle.px_xlog.specs.Payload.{may_hold, may_hold_all}
 use Rattle.px_logged.specs.Fitting.{Fits, tag_of}

@@ -5,10 +5,11 @@ use Rattle.px_site.specs.State.{State, EachMoment, OnFile}
 use Rattle.px_site.specs.Cause.{Counts, Rose}
 use Rattle.px_model.specs.declared.write.Write.{Write}
 use Rattle.px_model.specs.Machine.{Machine}
-use Rattle.px_plain.specs.Writers.{writer_of, last_write_of}
-use Rattle.px_xlog.specs.declared.change.Change.{Change}
-use Rattle.px_xlog.specs.declared.change.Change.TheVariants.{Put}
-use Rattle.px_xlog.specs.Log.{Log, HasFirst, IsLogOf, full_at, is_end, with_frame}
+use Rattle.px_machine_laws.specs.Writers.{writer_of, last_write_of}
+use Rattle.px_told.specs.declared.change.Change.{Change}
+use Rattle.px_told.specs.declared.change.Change.TheVariants.{Put}
+use Rattle.px_xlog.specs.Log.{Log, HasFirst, IsLogOf, full_at, with_frame}
+use Rattle.px_told.specs.Changes.{is_end}
 use Rattle.px_xlog.specs.Payload.{may_hold}
 use Rattle.px_xlog.specs.Reading.{the_log}
 use Rattle.px_site.specs.declared.error.SiteError.TheVariants.{OutOfMemory as SiteShort, Fault as SiteFault}

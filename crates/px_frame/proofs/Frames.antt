@@ -11,7 +11,8 @@ use Rattle.std.proofs.lemmas.Option.{cond_some}
 use Rattle.std.proofs.lemmas.Slice.Eq.{starts_is}
 use Rattle.px_bytes.specs.Sum.{fnv_of}
 use Rattle.px_bytes.proofs.Numbers.{one_u64}
-use Rattle.px_frame.specs.declared.frame.TheConstants.{HEADER_SIZE, NUMBER_LIMIT, SHORTEST_PAYLOAD, LONGEST_PAYLOAD}
+use Rattle.px_frame.specs.declared.frame.TheConstants.{HEADER_SIZE}
+use Rattle.px_bytes.specs.declared.limits.TheConstants.{NUMBER_LIMIT, SHORTEST_PAYLOAD, LONGEST_PAYLOAD}
 use Rattle.px_frame.specs.Frame.{summed, frame, CanFrame, FrameAt, can_frame, named_payload, payload_at}
 
 -- a length, a sum, a number, and what follows

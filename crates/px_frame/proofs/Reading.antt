@@ -5,7 +5,8 @@ use Rattle.std.specs.Int.{w64, to_be_bytes}
 use Rattle.std.proofs.lemmas.List.{take_at, drop-drop, take-append-drop, length-take, length-drop}
 use Rattle.px_bytes.specs.Sum.{fnv_of}
 use Rattle.px_bytes.proofs.Numbers.{one_u32, one_u64, fnv_of_fits}
-use Rattle.px_frame.specs.declared.frame.TheConstants.{HEADER_SIZE, NUMBER_LIMIT, LONGEST_PAYLOAD}
+use Rattle.px_frame.specs.declared.frame.TheConstants.{HEADER_SIZE}
+use Rattle.px_bytes.specs.declared.limits.TheConstants.{NUMBER_LIMIT, LONGEST_PAYLOAD}
 use Rattle.px_frame.specs.declared.header.TheConstants.{SUMMED_FROM}
 use Rattle.px_frame.specs.declared.header.Header.{Header}
 use Rattle.px_frame.specs.Frame.{summed, frame, FrameAt}

@@ -3,7 +3,8 @@ use Rattle.std.specs.Prelude.{◌≡◌, ℕ, ◌+◌, ◌<◌, ◌≤◌, Bool,
 use Rattle.std.specs.List.{starts_with}
 use Rattle.std.specs.Int.{w32, w64, to_be_bytes, from_be_bytes}
 use Rattle.px_bytes.specs.Sum.{fnv_of}
-use Rattle.px_frame.specs.declared.frame.TheConstants.{HEADER_SIZE, NUMBER_LIMIT, SHORTEST_PAYLOAD, LONGEST_PAYLOAD}
+use Rattle.px_frame.specs.declared.frame.TheConstants.{HEADER_SIZE}
+use Rattle.px_bytes.specs.declared.limits.TheConstants.{NUMBER_LIMIT, SHORTEST_PAYLOAD, LONGEST_PAYLOAD}
 
 -- what the sum is taken of
 abbrev pub summed : ℕ → List ℕ → List ℕ

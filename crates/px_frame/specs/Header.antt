@@ -2,7 +2,8 @@
 use Rattle.std.specs.Prelude.{◌≡◌, ℕ, ◌+◌, ◌^◌, ◌<◌, ◌≤◌, List, ◌++◌, length, drop, slice_range}
 use Rattle.std.specs.Int.{w32, w64, to_be_bytes}
 use Rattle.px_bytes.specs.Sum.{fnv_of}
-use Rattle.px_frame.specs.declared.frame.TheConstants.{HEADER_SIZE, NUMBER_LIMIT, SHORTEST_PAYLOAD, LONGEST_PAYLOAD}
+use Rattle.px_frame.specs.declared.frame.TheConstants.{HEADER_SIZE}
+use Rattle.px_bytes.specs.declared.limits.TheConstants.{NUMBER_LIMIT, SHORTEST_PAYLOAD, LONGEST_PAYLOAD}
 use Rattle.px_frame.specs.declared.header.TheConstants.{SUMMED_FROM}
 use Rattle.px_frame.specs.declared.header.Header.{Header}
 

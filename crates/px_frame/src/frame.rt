@@ -1,4 +1,5 @@
 ghost use Rattle.std.specs.Prelude.{◌≡◌, ◌+◌, ◌≤◌, ◌++◌, ℕ, List, length, take, OnOk, OnErr, IfSome, IfNone};
+ghost use Rattle.px_bytes.specs.declared.limits.TheConstants.{LONGEST_PAYLOAD};
 ghost use Rattle.px_frame.specs.Frame.{CanFrame, FrameAt, frame};
 
 use crate::header::Header;
@@ -7,15 +8,6 @@ use std::alloc::AllocError;
 
 /// The bytes in front of a payload: length, sum and number.
 pub const HEADER_SIZE: usize = 16;
-
-/// Frames have the numbers below this one.
-pub const NUMBER_LIMIT: u64 = 1 << 48;
-
-/// The bytes of the shortest payload: a change with no cells.
-pub const SHORTEST_PAYLOAD: usize = 18;
-
-/// The bytes of the longest payload.
-pub const LONGEST_PAYLOAD: usize = 8192;
 
 /// Appends the frame of the payload with that number. Without memory for it `out` stays as it was.
 pub fn write_frame(out: &mut Vec<u8>, number: u64, payload: &[u8]) -> Result<(), AllocError>

@@ -1,5 +1,5 @@
-use crate::frame::{HEADER_SIZE, LONGEST_PAYLOAD, NUMBER_LIMIT, SHORTEST_PAYLOAD};
-use px_bytes::{Fields, fnv};
+use crate::frame::HEADER_SIZE;
+use px_bytes::{Fields, LONGEST_PAYLOAD, NUMBER_LIMIT, SHORTEST_PAYLOAD, fnv};
 
 /// Where the bytes begin that the sum is taken of: behind length and sum.
 const SUMMED_FROM: usize = 8;

@@ -20,14 +20,19 @@ use Rattle.px_shown.proofs.Changes.{link_stays_sound, unlink_stays_sound}
 use Rattle.px_shown.proofs.Showing.{commit_shows, link_hidden}
 use Rattle.px_shown.proofs.Unlinking.{unlink_shows, unlink_written}
 use Rattle.px_shown.proofs.Writing.{link_of_another, link_written, not_written, nothing_written}
-use Rattle.px_xlog.specs.declared.change.Change.{Change}
-use Rattle.px_xlog.specs.declared.change.Change.TheVariants.{Put, Commit, Rollback}
-use Rattle.px_xlog.specs.Reading.{writes_of}
-use Rattle.px_history.specs.Base.{IsBase, rows_over}
+use Rattle.px_told.specs.declared.change.Change.{Change}
+use Rattle.px_told.specs.declared.change.Change.TheVariants.{Put, Commit, Rollback}
+use Rattle.px_told.specs.Writes.{writes_of}
+use Rattle.px_history.specs.Base.{IsBase}
+use Rattle.px_told.specs.Writes.{rows_over}
 use Rattle.px_history.specs.Store.{IsOpen, Store, versions_from, versions_of}
 use Rattle.px_history.specs.Steps.{AreSteps, History, IsStep, MayCommit, MayPut, MayUnlink, Step, after_commit, after_put, after_rollback, after_step, after_steps, after_unlink, has_one_of, layout_linked}
-use Rattle.px_history.specs.Told.{Agrees, HasCommitOf, IsUntold, told, told_by}
-use Rattle.px_history.proofs.Adding.{no_changes, no_commit_more, one_commit_more, others_write, own_write, rows_committed, rows_more, still_commits, untold_before, untold_ends, untold_last, untold_writes, writes_of-append, writes_same}
+use Rattle.px_history.specs.Told.{Agrees, told, told_by}
+use Rattle.px_told.specs.Commits.{HasCommitOf}
+use Rattle.px_told.specs.Changes.{IsUntold}
+use Rattle.px_told.proofs.Rows.{no_changes, rows_committed, rows_more}
+use Rattle.px_told.proofs.Commits.{no_commit_more, one_commit_more, still_commits, untold_ends}
+use Rattle.px_told.proofs.Changes.{others_write, own_write, untold_before, untold_last, untold_writes, writes_of-append, writes_same}
 
 -- ---- of whom nothing is told
 

@@ -9,13 +9,15 @@ use Rattle.px_chain.proofs.Walks.{all_from}
 use Rattle.px_model.specs.declared.row.Row.{Row}
 use Rattle.px_shown.proofs.Changes.{no_cells_sound}
 use Rattle.px_shown.proofs.Showing.{alike_shown, none_shown}
-use Rattle.px_xlog.specs.declared.change.Change.{Change}
-use Rattle.px_xlog.specs.Reading.{stored_number}
-use Rattle.px_history.specs.Base.{IsBase, done_before, ended_before, rows_over}
+use Rattle.px_told.specs.declared.change.Change.{Change}
+use Rattle.px_told.specs.Changes.{stored_number}
+use Rattle.px_history.specs.Base.{IsBase, done_before, ended_before}
+use Rattle.px_told.specs.Writes.{rows_over}
 use Rattle.px_history.specs.Store.{IsOpen, IsTidied, Store, nothing, versions_of}
 use Rattle.px_history.specs.Steps.{History, IsUnlink, Step}
-use Rattle.px_history.specs.Told.{Agrees, AreUntoldFrom, IsUntold, told_by}
-use Rattle.px_history.proofs.Adding.{no_changes}
+use Rattle.px_history.specs.Told.{Agrees, told_by}
+use Rattle.px_told.specs.Changes.{AreUntoldFrom, IsUntold}
+use Rattle.px_told.proofs.Rows.{no_changes}
 use Rattle.px_history.proofs.Agreeing.{IsNotOf, history_agrees, untold_none, untold_open}
 
 pub nothing_is_base : (short : ℕ) → IsBase short 0 [] nothing

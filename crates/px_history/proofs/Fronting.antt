@@ -3,7 +3,7 @@ use Rattle.std.proofs.Common.{◌≡◌, ℕ, zero, suc, List, [], ◌∷◌, �
 use Rattle.std.proofs.lemmas.Grind.{flat_map-append, fold-append}
 use Rattle.std.proofs.lemmas.List.{append-nil, take-append-drop, take_at}
 use Rattle.px_change.specs.declared.change.Change.{Change}
-use Rattle.px_xlog.specs.declared.change.Change.{Change as Told}
+use Rattle.px_told.specs.declared.change.Change.{Change as Told}
 use Rattle.px_history.specs.Store.{Store}
 use Rattle.px_history.specs.Steps.{AreSteps, History, IsStep, Step, after_step, after_steps}
 use Rattle.px_history.specs.Told.{told, told_by}

@@ -29,7 +29,7 @@ use Rattle.px_change.specs.declared.limits.TheConstants.{LEAST_UNLINKING, MOST_C
 use Rattle.px_recs.specs.Text.{header_text, pointer_text, slot_text}
 use Rattle.px_recs.proofs.Slots.{form_lengths, slot_size}
 use Rattle.px_recs.proofs.Texts.{length-header}
-use Rattle.px_restart.specs.declared.restart.TheConstants.{MOST_TABLES, TRANSACTION_LIMIT}
+use Rattle.px_model.specs.declared.limits.TheConstants.{MOST_TABLES, STORED_NUMBERS_END}
 use Rattle.px_shown.specs.Changes.{taken_slot}
 use Rattle.px_shown.specs.Tables.{AreSound}
 use Rattle.px_shown.proofs.Rows.{chained}
@@ -88,7 +88,7 @@ pointer_held short tables t n pointer table some small = (
 -- ---- a change
 
 stored : (xn : ℕ) → IsStoredNumber xn → is_stored xn ≡ true
-stored xn fits = and_from (nat_le 1 xn) (nat_lt xn TRANSACTION_LIMIT) (le-leb 1 xn fits.0) (lt-ltb xn TRANSACTION_LIMIT fits.1)
+stored xn fits = and_from (nat_le 1 xn) (nat_lt xn STORED_NUMBERS_END) (le-leb 1 xn fits.0) (lt-ltb xn STORED_NUMBERS_END fits.1)
 
 held : (tables frame short : ℕ) (change : Change) → is_stored change.xn ≡ true → has_commit change.kind change.commit ≡ true → has_cells change.kind change.cells ≡ true
     → All (IsHeld short tables) change.cells → rise change.cells ≡ true → is_due frame change.kind change.commit ≡ true → may_hold tables frame short change ≡ true

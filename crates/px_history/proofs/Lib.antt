@@ -1,4 +1,3 @@
-pub mod Adding
 pub mod Agreeing
 pub mod Basing
 pub mod Fronting

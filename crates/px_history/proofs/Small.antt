@@ -11,13 +11,15 @@ use Rattle.px_model.specs.Rows.{key_cmp, same_key}
 use Rattle.px_shown.specs.Example.{row_with, written_by_3}
 use Rattle.px_shown.specs.Shown.{Done}
 use Rattle.px_shown.specs.Writes.{IsInFront}
-use Rattle.px_history.specs.Base.{IsBase, rows_over}
+use Rattle.px_history.specs.Base.{IsBase}
+use Rattle.px_told.specs.Writes.{rows_over}
 use Rattle.px_history.specs.Example.{again_by_5, deleted_by_4, header_with, second_run, small_base, small_history}
 use Rattle.px_history.specs.Store.{Store, nothing, versions_of}
 use Rattle.px_history.specs.Steps.{History, MayCommit, MayPut, MayUnlink, Step, after_step, after_steps}
-use Rattle.px_history.specs.Told.{IsUntold, told_by}
+use Rattle.px_history.specs.Told.{told_by}
+use Rattle.px_told.specs.Changes.{IsUntold}
 use Rattle.px_history.specs.Writers.{IsAlone}
-use Rattle.px_history.proofs.Adding.{past_untold}
+use Rattle.px_told.proofs.Changes.{past_untold}
 use Rattle.px_history.proofs.Agreeing.{IsNotOf, open_later}
 use Rattle.px_history.proofs.Basing.{crashed_is_base, nothing_is_base}
 use Rattle.px_history.proofs.Writing.{base_writer, may_commit, step_writer}

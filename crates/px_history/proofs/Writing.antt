@@ -16,7 +16,7 @@ use Rattle.px_shown.proofs.Rows.{chains_of, used_or_not}
 use Rattle.px_shown.proofs.Told.{Chains, IsChanged, here_or_away}
 use Rattle.px_shown.proofs.Unlinking.{unlink_in_front}
 use Rattle.px_shown.proofs.Writing.{commit_in_front, link_in_front, nothing_in_front}
-use Rattle.px_xlog.specs.declared.change.Change.{Change}
+use Rattle.px_told.specs.declared.change.Change.{Change}
 use Rattle.px_history.specs.Base.{IsBase}
 use Rattle.px_history.specs.Store.{IsOpen, Store, versions_from, versions_of}
 use Rattle.px_history.specs.Steps.{AreSteps, History, IsStep, LeavesOpen, MayPut, MayUnlink, Step, after_commit, after_put, after_rollback, after_step, after_steps, after_unlink, has_one_of, layout_linked}

@@ -5,8 +5,8 @@ use Rattle.px_model.specs.declared.row.Row.{Row}
 use Rattle.px_model.specs.Rows.{after}
 use Rattle.px_shown.specs.Shown.{Shows}
 use Rattle.px_shown.specs.Tables.{AreSound}
-use Rattle.px_xlog.specs.declared.change.Change.{Change}
-use Rattle.px_xlog.specs.Reading.{committed_after}
+use Rattle.px_told.specs.declared.change.Change.{Change}
+use Rattle.px_told.specs.Writes.{committed_after}
 use Rattle.px_history.specs.Store.{IsOpen, Store, versions_of}
 
 -- Its cells are sound and show these rows. All its versions are of transactions whose numbers are below `next`, the number of
@@ -17,10 +17,6 @@ pub record IsBase (short next : ℕ) (rows : List Row) (base : Store) : Type 0 w
   pub numbers : (t row : ℕ) → IsUsedRow (base.tables t) row → All (λ slot. slot.xn < next) (versions_of base t row)
   pub ended : (xn : ℕ) → xn < next → base.over xn ≡ not (base.done xn)
   pub later : (xn : ℕ) → next ≤ xn → IsOpen base xn
-
--- the rows after the writes of the transactions that commit in the changes, over these
-unfoldable pub rows_over : List Row → List Change → List Row
-rows_over rows changes = after rows (committed_after [] changes)
 
 -- the store after a crash or an end: who has a lower number and isn't done is over
 abbrev pub ended_before : (next : ℕ) → Store → Store

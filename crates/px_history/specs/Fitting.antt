@@ -2,13 +2,13 @@
 use Rattle.std.specs.Prelude.{ℕ, ◌+◌, ◌^◌, ◌<◌, ◌≤◌}
 use Rattle.px_cells.specs.declared.header.Header.{Header}
 use Rattle.px_change.specs.declared.limits.TheConstants.{MOST_CELLS}
-use Rattle.px_restart.specs.declared.restart.TheConstants.{TRANSACTION_LIMIT}
+use Rattle.px_model.specs.declared.limits.TheConstants.{STORED_NUMBERS_END}
 use Rattle.px_history.specs.Store.{Store, versions_from}
 use Rattle.px_history.specs.Steps.{Step}
 use Rattle.px_history.specs.Written.{first_writer}
 
 abbrev pub IsStoredNumber : (xn : ℕ) → Type 0
-IsStoredNumber xn = (1 ≤ xn) × (xn < TRANSACTION_LIMIT)
+IsStoredNumber xn = (1 ≤ xn) × (xn < STORED_NUMBERS_END)
 
 -- a store with so many tables has this one, and this header's places have numbers that fit
 pub record PlacesFit (tables t : ℕ) (header : Header) : Type 0 where

@@ -4,10 +4,12 @@ use Rattle.px_model.specs.declared.row.Row.{Row}
 use Rattle.px_shown.specs.Shown.{Shows, write_of}
 use Rattle.px_shown.specs.Tables.{AreSound}
 use Rattle.px_shown.specs.Writes.{AreWritesOf}
-use Rattle.px_xlog.specs.declared.change.Change.{Change}
-use Rattle.px_xlog.specs.declared.change.Change.TheVariants.{Put, Commit, Rollback}
-use Rattle.px_xlog.specs.Reading.{last_commit, stored_number, writes_of}
-use Rattle.px_history.specs.Base.{rows_over}
+use Rattle.px_told.specs.declared.change.Change.{Change}
+use Rattle.px_told.specs.declared.change.Change.TheVariants.{Put, Commit, Rollback}
+use Rattle.px_told.specs.Commits.{last_commit}
+use Rattle.px_told.specs.Changes.{stored_number}
+use Rattle.px_told.specs.Writes.{writes_of}
+use Rattle.px_told.specs.Writes.{rows_over}
 use Rattle.px_history.specs.Store.{Store, IsOpen}
 use Rattle.px_history.specs.Steps.{Step}
 
@@ -38,18 +40,6 @@ last_after last (Step.rollback xn) = last
 last_after last (Step.unlink t row from count) = last
 
 -- ---- agreement
-
--- some Commit is of this transaction
-abbrev pub HasCommitOf : (xn : ℕ) → List Change → Type 0
-HasCommitOf xn changes = (number : ℕ) × Contains changes (Commit xn number)
-
--- nothing is told of this transaction
-abbrev pub IsUntold : (xn : ℕ) → List Change → Type 0
-IsUntold xn changes = All (λ change. stored_number change ≢ xn) changes
-
--- nothing is told of the transaction with this number, nor of later ones
-abbrev pub AreUntoldFrom : (next : ℕ) → List Change → Type 0
-AreUntoldFrom next changes = (xn : ℕ) → next ≤ xn → IsUntold xn changes
 
 -- A store agrees with the changes told since a base, whose rows and next number these are. Its cells are sound and show the rows
 -- after the changes. Of the later numbers those are done that have a Commit there, and of the earlier ones those that were done

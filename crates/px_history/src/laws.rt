@@ -6,23 +6,28 @@ ghost use Rattle.px_chain.specs.Cells.{cell_of};
 ghost use Rattle.px_chain.specs.Sound.{IsSound, IsUsedRow, Layout};
 ghost use Rattle.px_chain.specs.Table.{Table, laid};
 ghost use Rattle.px_change.specs.Grammar.{may_hold};
-ghost use Rattle.px_history.specs.Base.{IsBase, done_before, ended_before, rows_over};
+ghost use Rattle.px_history.specs.Base.{IsBase, done_before, ended_before};
+ghost use Rattle.px_told.specs.Writes.{rows_over};
 ghost use Rattle.px_history.specs.Example.{second_run, small_base, small_history};
 ghost use Rattle.px_history.specs.Fitting.{FitsFrame};
 ghost use Rattle.px_history.specs.Steps.{History, IsStep, IsUnlink, LeavesOpen, Step, after_step, after_steps, layout_linked};
 ghost use Rattle.px_history.specs.Store.{IsOpen, IsTidied, Store, nothing, versions_of};
-ghost use Rattle.px_history.specs.Told.{Agrees, AreUntoldFrom, HasCommitOf, IsNumberedOn, IsUntold, last_after, told, told_by};
+ghost use Rattle.px_history.specs.Told.{Agrees, IsNumberedOn, last_after, told, told_by};
+ghost use Rattle.px_told.specs.Changes.{AreUntoldFrom, IsUntold};
+ghost use Rattle.px_told.specs.Commits.{HasCommitOf};
 ghost use Rattle.px_history.specs.Writers.{AreAlone, HaveOneWriter, IsAlone};
 ghost use Rattle.px_history.specs.Written.{cells_for, cells_in, change_of, changes_of, contents_by, contents_in};
 ghost use Rattle.px_model.specs.declared.row.Row.{Row};
-ghost use Rattle.px_restart.specs.declared.restart.TheConstants.{MOST_TABLES};
+ghost use Rattle.px_model.specs.declared.limits.TheConstants.{MOST_TABLES};
 ghost use Rattle.px_shown.specs.Changes.{IsLink};
 ghost use Rattle.px_shown.specs.Example.{row_with};
 ghost use Rattle.px_shown.specs.Shown.{Shows};
 ghost use Rattle.px_shown.specs.Tables.{AreSound};
 ghost use Rattle.px_shown.specs.Writes.{AreWritesOf, HasNoneOf};
-ghost use Rattle.px_xlog.specs.declared.change.Change.{Change};
-ghost use Rattle.px_xlog.specs.Reading.{CountsFrom, greatest_stored, last_commit, rows_in, writes_of};
+ghost use Rattle.px_told.specs.declared.change.Change.{Change};
+ghost use Rattle.px_told.specs.Commits.{CountsFrom, last_commit};
+ghost use Rattle.px_told.specs.Changes.{greatest_stored};
+ghost use Rattle.px_told.specs.Writes.{rows_in, writes_of};
 
 /// Bases, from which steps may go on. Tables of which nothing was ever used are one. What a history leaves is one for a later
 /// number, where nothing is told of that one and of those above: after a crash, which ends each transaction with a lower number,
@@ -42,15 +47,6 @@ pub fn bases()
         → IsBase short next rows base → History short base steps store → All IsUnlink steps → IsBase short next rows store }
     ensures tidied { (short next : ℕ) (rows : List Row) (base : Store) → IsBase short next rows base → IsTidied base
         → IsBase short next rows (done_before next base) }
-{}
-
-/// No changes leave the rows as they are; over no rows are just those that a log of the changes stands for. The rows after two runs
-/// are those after the changes of both, as long as the second run commits nobody of whom the first one tells.
-pub fn rows_after_runs()
-    ensures none { (rows : List Row) → rows_over rows [] ≡ rows }
-    ensures first { (changes : List Change) → rows_over [] changes ≡ rows_in changes }
-    ensures second { (rows : List Row) (changes more : List Change) → ((xn : ℕ) → HasCommitOf xn more → IsUntold xn changes)
-        → rows_over (rows_over rows changes) more ≡ rows_over rows (changes ++ more) }
 {}
 
 /// The cells of every history are sound.
@@ -142,8 +138,8 @@ pub fn a_link_leaves_one_layout()
         → IsLink table layout header slot after → after ≡ layout_linked table layout slot }
 {}
 
-/// From the base's next number on a transaction of which nothing is told may write: it is open, and has no versions. Nothing is
-/// told of one whose number is past all that are told. It stays open as long as no step ends it or takes a version from it. None
+/// From the base's next number on a transaction of which nothing is told may write: it is open, and has no versions.
+/// It stays open as long as no step ends it or takes a version from it. None
 /// with a lower number than the base's next one is open.
 pub fn a_new_transaction_is_open()
     ensures is_open { (short next : ℕ) (rows : List Row) (base store : Store) (steps : List Step) (xn : ℕ)
@@ -153,7 +149,6 @@ pub fn a_new_transaction_is_open()
         → IsBase short next rows base
         → History short base steps store → next ≤ xn → IsUntold xn (told_by steps) → IsUsedRow (store.tables t) row
         → HasNoneOf xn (versions_of store t row) }
-    ensures past_all { (changes : List Change) (xn : ℕ) → greatest_stored 0 changes < xn → IsUntold xn changes }
     ensures stays { (store : Store) (step : Step) (xn : ℕ) → IsOpen store xn → LeavesOpen xn store step
         → IsOpen (after_step store step) xn }
     ensures later { (short next : ℕ) (rows : List Row) (base store : Store) (steps : List Step) (xn : ℕ)

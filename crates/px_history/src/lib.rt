@@ -17,5 +17,5 @@ pub use laws::{
     a_history_shows_what_it_tells, a_link_leaves_one_layout, a_new_transaction_is_open,
     a_small_history, a_step_agrees, bases, cells_of_a_step, commits_stay_numbered, done_is_told,
     fronts_are_histories, histories_are_sound, histories_grow, one_writer_of_a_row,
-    rows_after_runs, what_a_frame_may_hold,
+    what_a_frame_may_hold,
 };

@@ -10,8 +10,8 @@ use Rattle.px_calls.specs.declared.call.Call.TheVariants.{Begin, Get, Hold, Fetc
 use Rattle.px_calls.specs.declared.reply.Reply.{Reply}
 use Rattle.px_calls.specs.declared.reply.Reply.TheVariants.{Committed, EndedEmpty, RolledBack}
 use Rattle.px_calls.specs.Steps.{open_of, is_refusal, if_open, reply_of, state_when_done, state_after, with_write}
-use Rattle.px_xlog.specs.declared.change.Change.{Change}
-use Rattle.px_xlog.specs.declared.change.Change.TheVariants.{Put, Commit as CommitChange, Rollback as RollbackChange}
+use Rattle.px_told.specs.declared.change.Change.{Change}
+use Rattle.px_told.specs.declared.change.Change.TheVariants.{Put, Commit as CommitChange, Rollback as RollbackChange}
 use Rattle.px_logged.specs.Logged.{put_of, end_of, logged_when_done, logged}
 
 -- ---- nothing

@@ -15,8 +15,8 @@ use Rattle.px_calls.specs.declared.call.Call.TheVariants.{Begin, Hold, Insert, U
 use Rattle.px_calls.specs.declared.reply.Reply.{Reply}
 use Rattle.px_calls.specs.declared.reply.Reply.TheVariants.{NoTable, LimitKey, LimitBody, LimitWrites, Conflict, OpenAlready, LimitBegins, Began}
 use Rattle.px_calls.specs.Steps.{open_of, is_refusal, if_open, unless_refused, write_refusal, has_table, fits_key, fits_body, longest_body, begins_spent, reply_of, state_when_done, state_after, new_transaction, plus_write, plus_kept}
-use Rattle.px_xlog.specs.declared.change.Change.{Change}
-use Rattle.px_xlog.specs.declared.change.Change.TheVariants.{Put, Commit as CommitChange, Rollback as RollbackChange}
+use Rattle.px_told.specs.declared.change.Change.{Change}
+use Rattle.px_told.specs.declared.change.Change.TheVariants.{Put, Commit as CommitChange, Rollback as RollbackChange}
 use Rattle.px_xlog.specs.Log.{Log}
 use Rattle.px_xlog.specs.Payload.{longest_key_and_body, may_hold, may_hold_all}
 use Rattle.px_xlog.proofs.MayHold.{commit_may_be, rollback_may_be, row_may_be, deletion_may_be}

@@ -15,8 +15,8 @@ use Rattle.px_calls.specs.declared.call.Call.TheVariants.{Begin, Get, Hold, Fetc
 use Rattle.px_calls.specs.declared.reply.Reply.TheVariants.{Committed, EndedEmpty}
 use Rattle.px_calls.specs.Histories.{state_after_all}
 use Rattle.px_calls.specs.Steps.{open_of, is_refusal, if_open, reply_of, state_when_done, state_after, entries_of}
-use Rattle.px_xlog.specs.declared.change.Change.{Change}
-use Rattle.px_xlog.specs.declared.change.Change.TheVariants.{Commit as CommitChange}
+use Rattle.px_told.specs.declared.change.Change.{Change}
+use Rattle.px_told.specs.declared.change.Change.TheVariants.{Commit as CommitChange}
 use Rattle.px_logged.specs.Logged.{end_of, logged}
 use Rattle.px_logged.specs.Growing.{KeepsOpening, KeepsCommitted}
 

@@ -1,7 +1,6 @@
 pub mod Adding
-pub mod Changes
 pub mod Fitted
-pub mod Fronts
+pub mod Numbered
 pub mod Grown
 pub mod Held
 pub mod Recounted

@@ -17,12 +17,16 @@ use Rattle.px_calls.specs.declared.call.Call.{Call}
 use Rattle.px_calls.specs.declared.call.Call.TheVariants.{Begin, Get, Hold, Fetch, Find, Scan, Insert, Update, Delete, Commit, Rollback}
 use Rattle.px_calls.specs.Histories.{state_after_all}
 use Rattle.px_calls.specs.Steps.{open_of, is_refusal, reply_of, state_when_done, state_after, plus_write, plus_kept, with_slot, new_transaction, entries_of}
-use Rattle.px_xlog.specs.declared.change.Change.{Change}
-use Rattle.px_xlog.specs.declared.change.Change.TheVariants.{Put, Commit as CommitChange, Rollback as RollbackChange}
-use Rattle.px_xlog.specs.Reading.{last_commit, writes_of, committed_after, commits_in, rows_in, greatest_stored, stored_number}
+use Rattle.px_told.specs.declared.change.Change.{Change}
+use Rattle.px_told.specs.declared.change.Change.TheVariants.{Put, Commit as CommitChange, Rollback as RollbackChange}
+use Rattle.px_told.specs.Commits.{last_commit, commits_in}
+use Rattle.px_told.specs.Writes.{writes_of, committed_after, rows_in}
+use Rattle.px_told.specs.Changes.{greatest_stored, stored_number}
 use Rattle.px_logged.specs.Logged.{put_of, end_of, logged_when_done, logged, logged_by_all}
 use Rattle.px_logged.specs.Recounting.{rows_now, Recounts}
-use Rattle.px_logged.proofs.Changes.{last_commit-append, writes_of-append, committed-append, greatest-append, no_writes}
+use Rattle.px_told.proofs.Commits.{last_commit-append}
+use Rattle.px_told.proofs.Changes.{writes_of-append, greatest-append, no_writes}
+use Rattle.px_told.proofs.Rows.{committed-append}
 use Rattle.px_logged.proofs.Slots.{IsNow, IsStill, slot_is}
 
 -- ---- the rows after all commits

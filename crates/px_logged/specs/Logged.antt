@@ -7,8 +7,8 @@ use Rattle.px_model.specs.Machine.{Machine, commits}
 use Rattle.px_calls.specs.declared.call.Call.{Call}
 use Rattle.px_calls.specs.declared.call.Call.TheVariants.{Begin, Get, Hold, Fetch, Find, Scan, Insert, Update, Delete, Commit, Rollback}
 use Rattle.px_calls.specs.Steps.{open_of, is_refusal, reply_of, state_after}
-use Rattle.px_xlog.specs.declared.change.Change.{Change}
-use Rattle.px_xlog.specs.declared.change.Change.TheVariants.{Put, Commit as CommitChange, Rollback as RollbackChange}
+use Rattle.px_told.specs.declared.change.Change.{Change}
+use Rattle.px_told.specs.declared.change.Change.TheVariants.{Put, Commit as CommitChange, Rollback as RollbackChange}
 
 -- a write of the open transaction, by its stored number
 abbrev pub put_of : Machine → Option Open → Write → List Change

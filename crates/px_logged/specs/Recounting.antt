@@ -4,8 +4,10 @@ use Rattle.px_model.specs.declared.machine.Open.{Open}
 use Rattle.px_model.specs.declared.row.Row.{Row}
 use Rattle.px_model.specs.Machine.{Machine, commits, published}
 use Rattle.px_calls.specs.Steps.{open_of}
-use Rattle.px_xlog.specs.declared.change.Change.{Change}
-use Rattle.px_xlog.specs.Reading.{commits_in, rows_in, writes_of, greatest_stored}
+use Rattle.px_told.specs.declared.change.Change.{Change}
+use Rattle.px_told.specs.Commits.{commits_in}
+use Rattle.px_told.specs.Writes.{rows_in, writes_of}
+use Rattle.px_told.specs.Changes.{greatest_stored}
 
 -- the rows after all commits
 abbrev pub rows_now : Machine → List Row

@@ -7,12 +7,14 @@ ghost use Rattle.px_model.specs.Machine.{Machine, commits, fresh, published};
 ghost use Rattle.px_calls.specs.declared.call.Call.{Call};
 ghost use Rattle.px_calls.specs.Steps.{state_after};
 ghost use Rattle.px_calls.specs.Histories.{state_after_all};
-ghost use Rattle.px_xlog.specs.declared.change.Change.{Change};
+ghost use Rattle.px_told.specs.declared.change.Change.{Change};
 ghost use Rattle.px_xlog.specs.Log.{Log};
 ghost use Rattle.px_xlog.specs.Payload.{longest_key_and_body, may_hold_all};
-ghost use Rattle.px_xlog.specs.Reading.{CountsFrom, commits_in, greatest_stored, rows_in};
+ghost use Rattle.px_told.specs.Commits.{CountsFrom, commits_in};
+ghost use Rattle.px_told.specs.Changes.{greatest_stored};
+ghost use Rattle.px_told.specs.Writes.{rows_in};
 ghost use Rattle.px_logged.specs.Fitting.{Fits, tag_of};
-ghost use Rattle.px_logged.specs.Fronts.{HasAll};
+ghost use Rattle.px_told.specs.Commits.{HasAll};
 ghost use Rattle.px_logged.specs.Growing.{KeepsCommitted, KeepsOpening};
 ghost use Rattle.px_logged.specs.Logged.{logged, logged_by_all};
 ghost use Rattle.px_logged.specs.Recounting.{Recounts};
@@ -48,12 +50,6 @@ pub fn what_may_stand_is_bounded()
     ensures commits { (tables : ℕ) (changes : List Change) → may_hold_all tables 0 changes ≡ true → commits_in changes ≤ length changes }
     ensures numbers { (tables most : ℕ) (changes : List Change) → may_hold_all tables 0 changes ≡ true → most < 2 ^ 62
         → greatest_stored most changes < 2 ^ 62 }
-{}
-
-/// The first changes of a log that has each commit among the durable ones stand for what the whole log does.
-pub fn a_front_with_each_commit_has_all()
-    ensures { (durable kept : ℕ) (changes : List Change) → CountsFrom 0 changes → commits_in (take durable changes) ≡ commits_in changes
-        → durable ≤ kept → HasAll kept changes }
 {}
 
 /// What was published stays, whatever is called, and only a commit that has writes publishes more.

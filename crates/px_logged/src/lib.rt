@@ -12,6 +12,6 @@
 mod laws;
 
 pub use laws::{
-    a_front_with_each_commit_has_all, calls_add_what_may_stand, calls_add_what_they_did,
-    what_may_stand_is_bounded, what_opens_is_its_log, what_was_published_stays,
+    calls_add_what_may_stand, calls_add_what_they_did, what_may_stand_is_bounded,
+    what_opens_is_its_log, what_was_published_stays,
 };

@@ -11,17 +11,19 @@ mod limits;
 mod machine;
 mod row;
 mod session;
+mod standing;
 mod words;
 mod write;
 
 pub use bytes::Bytes;
 pub use key::KeyOf;
 pub use limits::{
-    LONGEST_KEY, MOST_BEGINS, MOST_TICKETS, MOST_VARIATIONS, MOST_WRITES, SESSIONS,
-    STORED_NUMBERS_END,
+    LONGEST_BODY, LONGEST_KEY, LONGEST_SHORT, MOST_BEGINS, MOST_TABLES, MOST_TICKETS,
+    MOST_VARIATIONS, MOST_WRITES, SESSIONS, SHORTEST_SHORT, STORED_NUMBERS_END,
 };
 pub use machine::{Ended, Flat, Open, Variation};
 pub use row::{Row, RowList};
 pub use session::Session;
+pub use standing::Standing;
 pub use words::WordList;
 pub use write::{Write, Writes};

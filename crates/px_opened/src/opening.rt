@@ -4,7 +4,7 @@ ghost use Rattle.px_chain.specs.Sound.{Layout};
 ghost use Rattle.px_laid.specs.Places.{places};
 ghost use Rattle.px_laid.specs.Whole.{AreCellsOf};
 ghost use Rattle.px_recs.specs.Place.{is_number_of, place_of};
-ghost use Rattle.px_restart.specs.declared.restart.TheConstants.{MOST_TABLES};
+ghost use Rattle.px_model.specs.declared.limits.TheConstants.{MOST_TABLES};
 ghost use Rattle.px_shown.specs.Tables.{Layouts};
 ghost use Rattle.px_opened.specs.Damage.{IsErrorIn, IsErrorOf, flawed_kind, flawed_number, table_file};
 ghost use Rattle.px_opened.specs.Opened.{AreOpened, IsOpened, Opens, tables_of};

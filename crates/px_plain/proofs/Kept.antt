@@ -8,8 +8,9 @@ use Rattle.std.proofs.lemmas.List.Sums.{sum_by_push, count_by-le-length}
 use Rattle.px_model.specs.declared.limits.TheConstants.{SESSIONS, MOST_BEGINS, STORED_NUMBERS_END}
 use Rattle.px_model.specs.declared.machine.Ended.{Ended}
 use Rattle.px_model.specs.declared.machine.Open.{Open}
-use Rattle.px_plain.specs.Begun.{WereBegun, AreKept, has_number}
-use Rattle.px_plain.proofs.Begun.{begun-changed, begun-closed, begun-one_more, begun-one_less, begun-some}
+use Rattle.px_machine_laws.specs.Begun.{WereBegun}
+use Rattle.px_plain.specs.Kept.{AreKept, has_number}
+use Rattle.px_machine_laws.proofs.Begun.{begun-changed, begun-closed, begun-one_more, begun-one_less, begun-some}
 use Rattle.px_plain.proofs.Room.{opens-changed, opens-closed, opens-left}
 
 -- what stands at a place that is there is read alike, whatever would be read past the end

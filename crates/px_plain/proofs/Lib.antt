@@ -1,16 +1,7 @@
-pub mod Begun
-pub mod EveryHistory
 pub mod Kept
 pub mod Legality
-pub mod Limits
-pub mod Overlap
 pub mod Publishing
-pub mod ReadingCalls
 pub mod Room
 pub mod RowSteps
 pub mod Running
-pub mod Seen
-pub mod Sweeping
 pub mod Unbeginning
-pub mod Unwriting
-pub mod Writers

@@ -6,7 +6,7 @@ use Rattle.px_model.specs.declared.machine.Open.{Open}
 use Rattle.px_model.specs.Machine.{Machine}
 use Rattle.px_calls.specs.declared.call.Call.TheVariants.{Begin}
 use Rattle.px_calls.specs.Steps.{open_of, new_transaction, is_refusal, reply_of, state_when_done, state_after}
-use Rattle.px_plain.specs.Begun.{has_number, without_begin}
+use Rattle.px_plain.specs.Kept.{has_number, without_begin}
 
 abbrev begun_in : Machine → ℕ → Machine
 begun_in m session = record m { begun = m.begun + 1; active = set m.active session (Some (new_transaction m)) }

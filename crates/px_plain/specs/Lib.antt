@@ -1,5 +1,2 @@
-pub mod Begun
+pub mod Kept
 pub mod Runs
-pub mod Seen
-pub mod Unwriting
-pub mod Writers

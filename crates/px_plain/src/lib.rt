@@ -4,18 +4,14 @@
 //! each call is the definition of that call, so it shows that the definitions can be met, and later bodies
 //! are compared with it and built over it. `Plain` has the calls of a session and their parts, which a crate
 //! with an index of its own calls, the sweeper's step, the counts of a store, and runs over whole lists of
-//! calls and steps. `laws` says what holds of every such run.
+//! calls and steps. What holds of every such run is said in `px_machine_laws`.
 #![tactic(auto)]
 
-mod laws;
 mod plain;
 mod rows;
 mod slices;
 mod steps;
 
-pub use laws::{
-    a_transaction_has_so_many_writes, the_first_committer_wins, the_sweeper_changes_no_reply,
-};
 pub use plain::{Plain, fits_key};
 pub use rows::{apply_write, last_write};
 pub use steps::Step;

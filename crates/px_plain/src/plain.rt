@@ -51,7 +51,7 @@ pub struct Plain {
 impl Model for Plain {
     ghost use Rattle.std.specs.Vec.{vec_capacity};
     ghost use Rattle.px_model.specs.Machine.{Machine};
-    ghost use Rattle.px_plain.specs.Begun.{AreKept};
+    ghost use Rattle.px_plain.specs.Kept.{AreKept};
 
     ghost Value = { Machine };
 
@@ -63,7 +63,7 @@ impl Model for Plain {
 impl Plain {
     /// A store of so many tables, whose slots hold bodies of up to `short` bytes. It has the rows
     /// `opening` after `before` commits, and its first transaction has the stored number `base + 1`.
-    #[tactic(auto, using(crate::proofs::Begun::were_begun), unfolding(px_model::specs::Machine::fresh))]
+    #[tactic(auto, using(px_machine_laws::proofs::Begun::were_begun), unfolding(px_model::specs::Machine::fresh))]
     pub fn new(
         alloc: Global,
         tables: u8,
@@ -118,7 +118,7 @@ impl Plain {
 
     /// The row of the key that the transaction sees: what its own last write of the key left, else the last committed
     /// one before its snapshot, else the opening's row. It looks from the newest back and copies nothing.
-    #[tactic(auto, using(crate::proofs::Seen::seen))]
+    #[tactic(auto, using(px_machine_laws::proofs::Seen::seen))]
     fn row_seen<'a>(&'a self, transaction: &'a Open, table: u8, key: &[u8]) -> Option<&'a Row>
         ensures { option_copied result ≡ row_at (table, key.now) (view self.now transaction.now) }
     {

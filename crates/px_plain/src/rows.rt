@@ -6,7 +6,7 @@ ghost use Rattle.px_calls.specs.Steps.{rows_of_table, rows_with_tag};
 ghost use Rattle.px_model.specs.Machine.{committed_writes, committed_flat};
 ghost use Rattle.px_model.specs.Rows.{key_cmp, same_key, key_of, key_written, row_at, with_row, without_key, after_write, after, has_write_of};
 ghost use Rattle.px_model_laws.specs.Keys.{row_written};
-ghost use Rattle.px_plain.specs.Seen.{last_of_key, last_committed_of};
+ghost use Rattle.px_machine_laws.specs.Seen.{last_of_key, last_committed_of};
 
 use px_model::{Ended, Flat, Row, Write};
 use std::alloc::{AllocError, Global};

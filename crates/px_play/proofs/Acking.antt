@@ -14,7 +14,7 @@ use Rattle.px_calls.specs.declared.status.Status.TheVariants.{OutputFault}
 use Rattle.px_calls.specs.Histories.{state_after_all}
 use Rattle.px_calls.specs.Steps.{reply_of, state_after}
 use Rattle.px_calls.specs.Texts.{reply_text}
-use Rattle.px_xlog.specs.declared.change.Change.{Change}
+use Rattle.px_told.specs.declared.change.Change.{Change}
 use Rattle.px_xlog.specs.Reading.{Files, StandsFor}
 use Rattle.px_xlog.specs.Images.{IsPlainImage}
 use Rattle.px_xlog.specs.Log.{Log}

@@ -18,7 +18,7 @@ use Rattle.px_calls.specs.declared.status.Status.{Status}
 use Rattle.px_calls.specs.declared.status.Status.TheVariants.{OutputFault, OutOfMemory, LogFull}
 use Rattle.px_calls.specs.Steps.{open_of, is_refusal, reply_of, state_after}
 use Rattle.px_calls.specs.Texts.{reply_text}
-use Rattle.px_xlog.specs.declared.change.Change.{Change}
+use Rattle.px_told.specs.declared.change.Change.{Change}
 use Rattle.px_xlog.specs.Log.{Log, full_at, most_frames}
 use Rattle.px_logged.specs.Logged.{put_of, end_of, logged_when_done, logged}
 use Rattle.px_stored.specs.Stored.{Stored, StandsForEither}

@@ -8,7 +8,7 @@ use Rattle.px_calls.specs.declared.call.Call.{Call}
 use Rattle.px_calls.specs.Histories.{state_after_all}
 use Rattle.px_calls.specs.Steps.{reply_of, state_after}
 use Rattle.px_calls.specs.Texts.{reply_text}
-use Rattle.px_xlog.specs.declared.change.Change.{Change}
+use Rattle.px_told.specs.declared.change.Change.{Change}
 use Rattle.px_logged.specs.Logged.{logged, logged_by_all}
 use Rattle.px_play.specs.Told.{joined}
 use Rattle.px_play.specs.Playing.{replies_of, pieces_of}

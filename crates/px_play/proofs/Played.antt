@@ -17,7 +17,7 @@ use Rattle.px_calls.specs.Steps.{reply_of, state_after}
 use Rattle.px_calls.specs.Texts.{reply_text}
 use Rattle.px_script.specs.Grammar.{command_line}
 use Rattle.px_script.specs.Progress.{Progress}
-use Rattle.px_xlog.specs.declared.change.Change.{Change}
+use Rattle.px_told.specs.declared.change.Change.{Change}
 use Rattle.px_xlog.specs.Log.{most_frames}
 use Rattle.px_logged.specs.Logged.{logged, logged_by_all}
 use Rattle.px_stored.specs.Stored.{Stored}

@@ -7,7 +7,7 @@ use Rattle.px_scan.specs.Scan.{CanFrames}
 use Rattle.px_scan.proofs.Scans.{is_scan}
 use Rattle.px_restart.specs.declared.restart.Restart.{Restart}
 use Rattle.px_model.specs.Machine.{Machine, commits}
-use Rattle.px_xlog.specs.declared.change.Change.{Change}
+use Rattle.px_told.specs.declared.change.Change.{Change}
 use Rattle.px_xlog.specs.Payload.{change_text}
 use Rattle.px_xlog.specs.Reading.{Files, the_log}
 use Rattle.px_xlog.specs.Images.{IsPlainImage}

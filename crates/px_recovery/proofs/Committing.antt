@@ -8,10 +8,10 @@ use Rattle.std.specs.Prelude.{unwrap_or}
 use Rattle.px_model.specs.declared.row.Row.{Row}
 use Rattle.px_model.specs.declared.write.Write.{Write}
 use Rattle.px_model.specs.Rows.{after_write, after}
-use Rattle.px_xlog.specs.declared.change.Change.{Change}
-use Rattle.px_xlog.specs.declared.change.Change.TheVariants.{Put, Commit, Rollback}
-use Rattle.px_xlog.specs.Reading.{committed_after, writes_of}
-use Rattle.px_logged.proofs.Changes.{writes_of-append}
+use Rattle.px_told.specs.declared.change.Change.{Change}
+use Rattle.px_told.specs.declared.change.Change.TheVariants.{Put, Commit, Rollback}
+use Rattle.px_told.specs.Writes.{committed_after, writes_of}
+use Rattle.px_told.proofs.Changes.{writes_of-append}
 use Rattle.px_recovery.specs.Beginnings.{noted}
 
 -- what a change makes visible of those before it

@@ -4,7 +4,9 @@ use Rattle.std.specs.Int.{w32, w64, from_be_bytes}
 use Rattle.std.proofs.lemmas.Nat.{from_be_bytes-to_be_bytes_4, from_be_bytes-to_be_bytes_8}
 use Rattle.std.proofs.lemmas.Bool.{cases_lt}
 use Rattle.px_restart.specs.declared.restart.Restart.{Restart}
-use Rattle.px_restart.specs.declared.restart.TheConstants.{RESTART_SIZE, SERIAL_LIMIT, MOST_TABLES, SHORTEST_SHORT, LONGEST_SHORT, FRAME_LIMIT, TRANSACTION_LIMIT}
+use Rattle.px_restart.specs.declared.restart.TheConstants.{RESTART_SIZE}
+use Rattle.px_model.specs.declared.limits.TheConstants.{MOST_TABLES, SHORTEST_SHORT, LONGEST_SHORT, STORED_NUMBERS_END}
+use Rattle.px_bytes.specs.declared.limits.TheConstants.{NUMBER_LIMIT}
 use Rattle.px_restart.specs.declared.text.TheConstants.{VERSION}
 use Rattle.px_restart.specs.Restart.{CanRestart, HasShape, HasMarks, FieldsFit, RestartAt, restart_text, fields_text}
 use Rattle.px_restart.proofs.Restarts.{can_fit}
@@ -61,19 +63,19 @@ decide_bytes (x ∷ xs) (y ∷ ys) = same {P = (x ≡ y) × (xs ≡ ys)} {Q = x 
 
 decide_shape : (r : Restart) → Decided (HasShape r)
 decide_shape r = same
-    {P = (1 ≤ r.serial) × ((r.serial < SERIAL_LIMIT) × ((1 ≤ r.tables) × ((r.tables ≤ MOST_TABLES) × ((SHORTEST_SHORT ≤ r.short) × ((r.short ≤ LONGEST_SHORT) × ((1 ≤ r.segment) × (r.segment < 2 ^ 32)))))))}
+    {P = (1 ≤ r.serial) × ((r.serial < NUMBER_LIMIT) × ((1 ≤ r.tables) × ((r.tables ≤ MOST_TABLES) × ((SHORTEST_SHORT ≤ r.short) × ((r.short ≤ LONGEST_SHORT) × ((1 ≤ r.segment) × (r.segment < 2 ^ 32)))))))}
     {Q = HasShape r}
     (λ h. record { serial_from = h.0; serial_to = h.1.0; tables_from = h.1.1.0; tables_to = h.1.1.1.0; short_from = h.1.1.1.1.0; short_to = h.1.1.1.1.1.0; segment_from = h.1.1.1.1.1.1.0; segment_to = h.1.1.1.1.1.1.1 })
     (λ s. (s.serial_from, (s.serial_to, (s.tables_from, (s.tables_to, (s.short_from, (s.short_to, (s.segment_from, s.segment_to))))))))
-    (both (decide_most 1 r.serial) (both (decide_less r.serial SERIAL_LIMIT) (both (decide_most 1 r.tables) (both (decide_most r.tables MOST_TABLES) (both (decide_most SHORTEST_SHORT r.short) (both (decide_most r.short LONGEST_SHORT) (both (decide_most 1 r.segment) (decide_less r.segment (2 ^ 32)))))))))
+    (both (decide_most 1 r.serial) (both (decide_less r.serial NUMBER_LIMIT) (both (decide_most 1 r.tables) (both (decide_most r.tables MOST_TABLES) (both (decide_most SHORTEST_SHORT r.short) (both (decide_most r.short LONGEST_SHORT) (both (decide_most 1 r.segment) (decide_less r.segment (2 ^ 32)))))))))
 
 decide_marks : (r : Restart) → Decided (HasMarks r)
 decide_marks r = same
-    {P = (r.commits ≤ r.durable) × ((1 ≤ r.low) × ((r.low ≤ r.next) × ((r.next ≤ TRANSACTION_LIMIT) × ((r.first ≤ r.redo) × ((r.redo ≤ r.durable) × (r.durable ≤ FRAME_LIMIT))))))}
+    {P = (r.commits ≤ r.durable) × ((1 ≤ r.low) × ((r.low ≤ r.next) × ((r.next ≤ STORED_NUMBERS_END) × ((r.first ≤ r.redo) × ((r.redo ≤ r.durable) × (r.durable ≤ NUMBER_LIMIT))))))}
     {Q = HasMarks r}
     (λ h. record { commits_to = h.0; low_from = h.1.0; low_to = h.1.1.0; next_to = h.1.1.1.0; first_to = h.1.1.1.1.0; redo_to = h.1.1.1.1.1.0; durable_to = h.1.1.1.1.1.1 })
     (λ m. (m.commits_to, (m.low_from, (m.low_to, (m.next_to, (m.first_to, (m.redo_to, m.durable_to)))))))
-    (both (decide_most r.commits r.durable) (both (decide_most 1 r.low) (both (decide_most r.low r.next) (both (decide_most r.next TRANSACTION_LIMIT) (both (decide_most r.first r.redo) (both (decide_most r.redo r.durable) (decide_most r.durable FRAME_LIMIT)))))))
+    (both (decide_most r.commits r.durable) (both (decide_most 1 r.low) (both (decide_most r.low r.next) (both (decide_most r.next STORED_NUMBERS_END) (both (decide_most r.first r.redo) (both (decide_most r.redo r.durable) (decide_most r.durable NUMBER_LIMIT)))))))
 
 decide_bounds : (r : Restart) → Decided (CanRestart r)
 decide_bounds r = same {P = HasShape r × HasMarks r} {Q = CanRestart r} (λ h. record { shape = h.0; marks = h.1 }) (λ can. (can.shape, can.marks)) (both (decide_shape r) (decide_marks r))

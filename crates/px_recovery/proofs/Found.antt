@@ -10,10 +10,13 @@ use Rattle.px_restart.specs.declared.restart.Restart.{Restart}
 use Rattle.px_restart.specs.Restart.{CanRestart, IsPicked}
 use Rattle.px_model.specs.declared.row.Row.{Row}
 use Rattle.px_model.specs.Machine.{Machine, fresh}
-use Rattle.px_xlog.specs.declared.change.Change.{Change}
+use Rattle.px_told.specs.declared.change.Change.{Change}
 use Rattle.px_xlog.specs.Log.{Log, IsLogOf}
 use Rattle.px_xlog.specs.Payload.{change_text, may_hold_all}
-use Rattle.px_xlog.specs.Reading.{Files, the_log, first_restart, second_restart, log_text, stored_number, greatest_stored, base_after, commits_in, rows_in, Scans, Says}
+use Rattle.px_xlog.specs.Reading.{Files, the_log, first_restart, second_restart, log_text, base_after, Scans, Says}
+use Rattle.px_told.specs.Changes.{stored_number, greatest_stored}
+use Rattle.px_told.specs.Commits.{commits_in}
+use Rattle.px_told.specs.Writes.{rows_in}
 use Rattle.px_xlog.proofs.FramesOfChanges.{can_frames}
 use Rattle.px_logged.specs.Fitting.{Fits}
 use Rattle.px_logged.specs.Recounting.{Recounts}

@@ -9,7 +9,7 @@ use Rattle.px_site.proofs.Files.{stands, stands_changed, change_on_file, sync_on
 use Rattle.px_site.proofs.Images.{length-overlay, not_either, outside, overlay_other}
 use Rattle.px_site.proofs.Moments.{then_moments, weaker_moments}
 use Rattle.px_restart.specs.declared.restart.Restart.{Restart}
-use Rattle.px_restart.specs.declared.restart.TheConstants.{MOST_TABLES, SHORTEST_SHORT, LONGEST_SHORT}
+use Rattle.px_model.specs.declared.limits.TheConstants.{MOST_TABLES, SHORTEST_SHORT, LONGEST_SHORT}
 use Rattle.px_restart.specs.declared.text.TheConstants.{VERSION}
 use Rattle.px_restart.specs.Restart.{CanRestart, RestartAt, IsPicked, restart_text}
 use Rattle.px_restart.proofs.Restarts.{one_restart}

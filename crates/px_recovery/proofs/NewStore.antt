@@ -13,7 +13,9 @@ use Rattle.px_restart.specs.declared.restart.Restart.{Restart}
 use Rattle.px_restart.specs.declared.text.TheConstants.{VERSION}
 use Rattle.px_restart.specs.Restart.{CanRestart, RestartAt, restart_text}
 use Rattle.px_xlog.specs.Images.{HasAt, IsPlainRestart, IsPlainLog, IsPlainImage, CanMake, Settled, IsBehind}
-use Rattle.px_xlog.specs.Reading.{Files, the_log, StandsFor, commits_in, rows_in}
+use Rattle.px_xlog.specs.Reading.{Files, the_log, StandsFor}
+use Rattle.px_told.specs.Commits.{commits_in}
+use Rattle.px_told.specs.Writes.{rows_in}
 use Rattle.px_xlog.proofs.AtRest.{image_of_rest}
 use Rattle.px_recovery.specs.Making.{first_file, second_file, first_saved, with_restart, IsFree, IsWritten}
 use Rattle.px_recovery.proofs.Fronts.{has_text, is_text}

@@ -2,7 +2,7 @@
 use Rattle.std.proofs.Common.{◌≡◌, ◌≢◌, ℕ, ◌+◌, true, List, [], ◌∷◌, ◌++◌, length, map, drop, sym, ap, subst, ◌∙◌, inl, inr, arith}
 use Rattle.std.proofs.lemmas.Bool.{and_parts}
 use Rattle.px_restart.specs.declared.restart.Restart.{Restart}
-use Rattle.px_xlog.specs.declared.change.Change.{Change}
+use Rattle.px_told.specs.declared.change.Change.{Change}
 use Rattle.px_xlog.specs.Payload.{change_text, may_hold, may_hold_all}
 use Rattle.px_xlog.specs.Reading.{Files, the_log, first_restart, second_restart, HasNoRestart, IsDamage, Says, Scans}
 use Rattle.px_xlog.proofs.FramesOfChanges.{length-map-text}

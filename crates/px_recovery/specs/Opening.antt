@@ -4,8 +4,10 @@ use Rattle.px_site.specs.State.{Moment}
 use Rattle.px_restart.specs.declared.restart.Restart.{Restart}
 use Rattle.px_restart.specs.Restart.{IsPicked}
 use Rattle.px_model.specs.Machine.{Machine, fresh}
-use Rattle.px_xlog.specs.declared.change.Change.{Change}
-use Rattle.px_xlog.specs.Reading.{Files, the_log, first_restart, second_restart, Scans, commits_in, rows_in, base_after}
+use Rattle.px_told.specs.declared.change.Change.{Change}
+use Rattle.px_xlog.specs.Reading.{Files, the_log, first_restart, second_restart, Scans, base_after}
+use Rattle.px_told.specs.Commits.{commits_in}
+use Rattle.px_told.specs.Writes.{rows_in}
 use Rattle.px_core.specs.Core.{Kept}
 use Rattle.px_recovery.specs.declared.opening.OpenReport.{OpenReport}
 use Rattle.px_recovery.specs.declared.opening.Opened.{Opened}

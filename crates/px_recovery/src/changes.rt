@@ -2,13 +2,16 @@
 ghost use Rattle.std.specs.Prelude.{◌≡◌, ℕ, nat_eq, unwrap_or, [], IfOk, OnOk};
 ghost use Rattle.std.specs.HashMap.{get};
 ghost use Rattle.px_model.specs.Rows.{after};
-ghost use Rattle.px_xlog.specs.Reading.{base_after, commits_in, rows_in, stored_number, writes_of};
+ghost use Rattle.px_xlog.specs.Reading.{base_after};
+ghost use Rattle.px_told.specs.Commits.{commits_in};
+ghost use Rattle.px_told.specs.Writes.{rows_in, writes_of};
+ghost use Rattle.px_told.specs.Changes.{stored_number};
 ghost use Rattle.px_recovery.specs.Beginnings.{noted};
 
 use px_model::{Row, RowList};
 use px_plain::apply_write;
 use px_restart::Restart;
-use px_xlog::Change;
+use px_told::Change;
 use std::alloc::{AllocError, Global};
 use std::collections::HashMap;
 

@@ -11,7 +11,8 @@ ghost use Rattle.px_recovery.specs.Making.{HasNoOthers, IsFree, IsMade, IsWritte
 
 use crate::MakeError;
 use crate::restarts::{FIRST_RESTART, SECOND_RESTART, read_restart};
-use px_restart::{LONGEST_SHORT, MOST_TABLES, Restart, SHORTEST_SHORT, restart_bytes};
+use px_model::{LONGEST_SHORT, MOST_TABLES, SHORTEST_SHORT};
+use px_restart::{Restart, restart_bytes};
 use px_site::{FileName, Site, SiteError};
 
 /// Makes a store with so many tables and this short length, in bytes, and without rows, where no file but the two

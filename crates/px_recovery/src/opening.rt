@@ -5,7 +5,7 @@ ghost use Rattle.px_site.specs.State.{EachMoment};
 ghost use Rattle.px_restart.specs.declared.restart.Restart.{Restart};
 ghost use Rattle.px_restart.specs.Restart.{CanRestart};
 ghost use Rattle.px_model.specs.declared.row.Row.{Row};
-ghost use Rattle.px_xlog.specs.declared.change.Change.{Change};
+ghost use Rattle.px_told.specs.declared.change.Change.{Change};
 ghost use Rattle.px_xlog.specs.Images.{KeepsStanding, Settled};
 ghost use Rattle.px_xlog.specs.Payload.{may_hold_all};
 ghost use Rattle.px_xlog.specs.Reading.{Says};
@@ -21,7 +21,8 @@ use px_core::Core;
 use px_restart::Restart;
 use px_sessions::Sessions;
 use px_site::Site;
-use px_xlog::{Change, Xlog, open_log};
+use px_told::Change;
+use px_xlog::{Xlog, open_log};
 use std::alloc::{AllocError, Global};
 
 /// What an opening found.

@@ -7,7 +7,8 @@ use Rattle.px_model.specs.declared.limits.TheConstants.{LONGEST_KEY}
 use Rattle.px_cells.specs.declared.slot.Slot.{Slot}
 use Rattle.px_cells.specs.declared.slot.SlotState.{SlotState}
 use Rattle.px_cells.specs.declared.slot.SlotState.TheVariants.{Free, Row, Deletion}
-use Rattle.px_cells.specs.declared.limits.TheConstants.{SLOT_HEAD_SIZE, LONGEST_BODY}
+use Rattle.px_cells.specs.declared.limits.TheConstants.{SLOT_HEAD_SIZE}
+use Rattle.px_model.specs.declared.limits.TheConstants.{LONGEST_BODY}
 use Rattle.px_cells.specs.Form.{has_key, has_no_body, is_unused, is_in_state, is_slot}
 use Rattle.px_recs.specs.declared.raw.Numbers.{Numbers}
 use Rattle.px_recs.specs.declared.raw.TheConstants.{GAP_SIZE, NUMBERS_SIZE}

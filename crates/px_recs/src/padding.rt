@@ -1,8 +1,8 @@
 ghost use Rattle.std.specs.Prelude.{◌≡◌, ◌≢◌, ◌<◌, ◌≤◌, ◌^◌, All, ◌++◌, ◌↔◌, ℕ, List, length, take, replicate, IsTrue, IfSome, IfNone, OnOk, OnErr};
-ghost use Rattle.px_restart.specs.declared.restart.TheConstants.{LONGEST_SHORT};
+ghost use Rattle.px_model.specs.declared.limits.TheConstants.{LONGEST_SHORT};
 ghost use Rattle.px_recs.specs.Text.{padded};
 
-use px_restart::LONGEST_SHORT;
+use px_model::LONGEST_SHORT;
 use std::alloc::AllocError;
 
 /// The front of this length of a field that is zero past it. None exactly where the field isn't zero there, or ends before.

@@ -8,8 +8,8 @@ ghost use Rattle.px_recs.specs.Fields.{NumbersFit, PartsAt, raw_text};
 use crate::code::state_of_code;
 use crate::padding::{are_zeros, unpadded};
 use crate::raw::{Numbers, Raw, read_raw};
-use px_cells::{LONGEST_BODY, Slot, SlotState};
-use px_model::{Bytes, LONGEST_KEY};
+use px_cells::{Slot, SlotState};
+use px_model::{Bytes, LONGEST_BODY, LONGEST_KEY};
 use std::alloc::{AllocError, Global};
 use std::marker::Model;
 

@@ -101,11 +101,5 @@ one_restart bytes r s at_r at_s =
 
 -- ---- bytes that are taken field by field
 
-pub u32_then : (n : ℕ) (bytes rest tail : List ℕ) → bytes ≡ to_be_bytes w32 n ++ rest → rest ≡ tail → bytes ≡ to_be_bytes w32 n ++ tail
-u32_then n bytes rest tail e f = e ∙ ap (λ (x : List ℕ). to_be_bytes w32 n ++ x) f
-
-pub u64_then : (n : ℕ) (bytes rest tail : List ℕ) → bytes ≡ to_be_bytes w64 n ++ rest → rest ≡ tail → bytes ≡ to_be_bytes w64 n ++ tail
-u64_then n bytes rest tail e f = e ∙ ap (λ (x : List ℕ). to_be_bytes w64 n ++ x) f
-
 pub fields_then : (r : Restart) (bytes rest tail : List ℕ) → bytes ≡ fields_text r ++ rest → rest ≡ tail → bytes ≡ fields_text r ++ tail
 fields_then r bytes rest tail e f = e ∙ ap (λ (x : List ℕ). fields_text r ++ x) f

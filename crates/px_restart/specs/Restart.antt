@@ -3,7 +3,9 @@ use Rattle.std.specs.Prelude.{◌≡◌, ◌⊎◌, ℕ, ◌^◌, ◌<◌, ◌�
 use Rattle.std.specs.Int.{w32, w64, to_be_bytes}
 use Rattle.px_bytes.specs.Sum.{fnv_of}
 use Rattle.px_restart.specs.declared.restart.Restart.{Restart}
-use Rattle.px_restart.specs.declared.restart.TheConstants.{RESTART_SIZE, SERIAL_LIMIT, MOST_TABLES, SHORTEST_SHORT, LONGEST_SHORT, FRAME_LIMIT, TRANSACTION_LIMIT}
+use Rattle.px_restart.specs.declared.restart.TheConstants.{RESTART_SIZE}
+use Rattle.px_model.specs.declared.limits.TheConstants.{MOST_TABLES, SHORTEST_SHORT, LONGEST_SHORT, STORED_NUMBERS_END}
+use Rattle.px_bytes.specs.declared.limits.TheConstants.{NUMBER_LIMIT}
 use Rattle.px_restart.specs.declared.text.TheConstants.{MAGIC, VERSION}
 
 -- the fields behind the version, in their places
@@ -37,7 +39,7 @@ pub record FieldsFit (r : Restart) : Type 0 where
 -- the bounds of the serial, the store's shape and the segment
 pub record HasShape (r : Restart) : Type 0 where
   pub serial_from : 1 ≤ r.serial
-  pub serial_to : r.serial < SERIAL_LIMIT
+  pub serial_to : r.serial < NUMBER_LIMIT
   pub tables_from : 1 ≤ r.tables
   pub tables_to : r.tables ≤ MOST_TABLES
   pub short_from : SHORTEST_SHORT ≤ r.short
@@ -50,10 +52,10 @@ pub record HasMarks (r : Restart) : Type 0 where
   pub commits_to : r.commits ≤ r.durable
   pub low_from : 1 ≤ r.low
   pub low_to : r.low ≤ r.next
-  pub next_to : r.next ≤ TRANSACTION_LIMIT
+  pub next_to : r.next ≤ STORED_NUMBERS_END
   pub first_to : r.first ≤ r.redo
   pub redo_to : r.redo ≤ r.durable
-  pub durable_to : r.durable ≤ FRAME_LIMIT
+  pub durable_to : r.durable ≤ NUMBER_LIMIT
 
 -- which restarts have a file
 pub record CanRestart (r : Restart) : Type 0 where

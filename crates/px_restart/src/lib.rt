@@ -17,8 +17,5 @@ mod text;
 
 pub use choice::pick;
 pub use laws::{one_reading, read_is_written, written_is_read};
-pub use restart::{
-    FRAME_LIMIT, LONGEST_SHORT, MOST_TABLES, RESTART_SIZE, Restart, SERIAL_LIMIT, SHORTEST_SHORT,
-    TRANSACTION_LIMIT,
-};
+pub use restart::{RESTART_SIZE, Restart};
 pub use text::{MAGIC, VERSION, restart_bytes};

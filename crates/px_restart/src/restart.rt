@@ -1,23 +1,8 @@
+use px_bytes::NUMBER_LIMIT;
+use px_model::{LONGEST_SHORT, MOST_TABLES, SHORTEST_SHORT, STORED_NUMBERS_END};
+
 /// The bytes of a restart file.
 pub const RESTART_SIZE: usize = 80;
-
-/// Serials are below this one.
-pub const SERIAL_LIMIT: u64 = 1 << 48;
-
-/// A store has this many tables at most.
-pub const MOST_TABLES: u32 = 8;
-
-/// The least short length of a store, in bytes.
-pub const SHORTEST_SHORT: u32 = 16;
-
-/// The greatest short length of a store, in bytes.
-pub const LONGEST_SHORT: u32 = 1024;
-
-/// A log has this many frames at most.
-pub const FRAME_LIMIT: u64 = 1 << 48;
-
-/// No transaction has this number or a greater one.
-pub const TRANSACTION_LIMIT: u64 = 1 << 62;
 
 /// What a restart file says behind its version.
 #[derive(Clone, Copy, Debug, PartialEq, Eq)]
@@ -60,7 +45,7 @@ impl Restart {
         ensures { IsTrue result ↔ HasShape self }
     {
         1 <= self.serial
-            && self.serial < SERIAL_LIMIT
+            && self.serial < NUMBER_LIMIT
             && 1 <= self.tables
             && self.tables <= MOST_TABLES
             && SHORTEST_SHORT <= self.short
@@ -74,9 +59,9 @@ impl Restart {
         self.commits <= self.durable
             && 1 <= self.low
             && self.low <= self.next
-            && self.next <= TRANSACTION_LIMIT
+            && self.next <= STORED_NUMBERS_END
             && self.first <= self.redo
             && self.redo <= self.durable
-            && self.durable <= FRAME_LIMIT
+            && self.durable <= NUMBER_LIMIT
     }
 }

@@ -12,11 +12,13 @@ use Rattle.px_calls.specs.declared.status.Status.{Status}
 use Rattle.px_calls.specs.declared.status.Status.TheVariants.{Done, BadLine, NotEmpty, DiskFault, SourceFault, OutputFault, OutOfMemory, LogFull, TooLong}
 use Rattle.px_calls.specs.Histories.{by, FirstCommitterWins, machine_after, state_after_all}
 use Rattle.px_calls.specs.Steps.{state_after}
-use Rattle.px_plain.proofs.EveryHistory.{first_committer_wins}
+use Rattle.px_machine_laws.proofs.EveryHistory.{first_committer_wins}
 use Rattle.px_script.specs.Grammar.{command_line}
 use Rattle.px_script.specs.Lines.{complete_after, rest_after, complete_lines, open_line, last_line, lines_at_end}
-use Rattle.px_xlog.specs.declared.change.Change.{Change}
-use Rattle.px_xlog.specs.Reading.{Files, first_restart, second_restart, commits_in, rows_in, base_after}
+use Rattle.px_told.specs.declared.change.Change.{Change}
+use Rattle.px_xlog.specs.Reading.{Files, first_restart, second_restart, base_after}
+use Rattle.px_told.specs.Commits.{commits_in}
+use Rattle.px_told.specs.Writes.{rows_in}
 use Rattle.px_logged.specs.Logged.{logged, logged_by_all}
 use Rattle.px_recovery.specs.Making.{IsFree, first_file, second_file}
 use Rattle.px_recovery.specs.Opening.{opened_machine}

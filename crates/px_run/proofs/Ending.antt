@@ -17,7 +17,7 @@ use Rattle.px_calls.specs.declared.status.Status.TheVariants.{Done, Usage, BadLi
 use Rattle.px_calls.specs.Closing.{closing_line}
 use Rattle.px_calls.specs.Texts.{numbered, reply_text}
 use Rattle.px_script.specs.Lines.{open_line}
-use Rattle.px_xlog.specs.declared.change.Change.{Change}
+use Rattle.px_told.specs.declared.change.Change.{Change}
 use Rattle.px_xlog.specs.Images.{IsSettledStore}
 use Rattle.px_stored.proofs.Standing.{last_moment}
 use Rattle.px_recovery.specs.Opening.{opened_machine}

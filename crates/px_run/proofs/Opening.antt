@@ -10,10 +10,11 @@ use Rattle.px_restart.specs.declared.restart.Restart.{Restart}
 use Rattle.px_restart.specs.Restart.{IsPicked}
 use Rattle.px_model.specs.Machine.{Machine}
 use Rattle.px_calls.specs.declared.status.Status.{Status}
-use Rattle.px_xlog.specs.declared.change.Change.{Change}
+use Rattle.px_told.specs.declared.change.Change.{Change}
 use Rattle.px_xlog.specs.Log.{Log}
 use Rattle.px_xlog.specs.Payload.{change_text, may_hold, may_hold_all}
-use Rattle.px_xlog.specs.Reading.{Files, the_log, first_restart, second_restart, HasNoRestart, IsDamage, Scans, rows_in}
+use Rattle.px_xlog.specs.Reading.{Files, the_log, first_restart, second_restart, HasNoRestart, IsDamage, Scans}
+use Rattle.px_told.specs.Writes.{rows_in}
 use Rattle.px_xlog.specs.Images.{IsSettledStore}
 use Rattle.px_stored.specs.Stored.{ReadsImages, Stored}
 use Rattle.px_stored.proofs.Settling.{stored_settled}

@@ -7,8 +7,10 @@ use Rattle.px_model.specs.Machine.{Machine, commits, fresh}
 use Rattle.px_calls.specs.declared.call.Call.{Call}
 use Rattle.px_calls.specs.Texts.{numbered, opened_line}
 use Rattle.px_script.specs.Lines.{complete_lines}
-use Rattle.px_xlog.specs.declared.change.Change.{Change}
-use Rattle.px_xlog.specs.Reading.{Files, StandsFor, commits_in, rows_in}
+use Rattle.px_told.specs.declared.change.Change.{Change}
+use Rattle.px_xlog.specs.Reading.{Files, StandsFor}
+use Rattle.px_told.specs.Commits.{commits_in}
+use Rattle.px_told.specs.Writes.{rows_in}
 use Rattle.px_xlog.specs.Images.{IsPlainImage, KeepsStanding}
 use Rattle.px_logged.specs.Recounting.{rows_now}
 use Rattle.px_stored.specs.Stored.{HasCommitted}

@@ -10,8 +10,10 @@ use Rattle.px_calls.specs.declared.call.Call.{Call}
 use Rattle.px_calls.specs.declared.status.Status.{Status}
 use Rattle.px_calls.specs.declared.status.Status.TheVariants.{Done, BadLine, DiskFault, SourceFault, OutputFault, OutOfMemory, LogFull, TooLong}
 use Rattle.px_calls.specs.Texts.{opened_line}
-use Rattle.px_xlog.specs.declared.change.Change.{Change}
-use Rattle.px_xlog.specs.Reading.{StandsFor, commits_in, rows_in}
+use Rattle.px_told.specs.declared.change.Change.{Change}
+use Rattle.px_xlog.specs.Reading.{StandsFor}
+use Rattle.px_told.specs.Commits.{commits_in}
+use Rattle.px_told.specs.Writes.{rows_in}
 use Rattle.px_xlog.specs.Images.{KeepsStanding}
 use Rattle.px_xlog.specs.Log.{Log, most_frames}
 use Rattle.px_logged.specs.Logged.{logged_by_all}

@@ -14,8 +14,10 @@ use Rattle.px_calls.specs.declared.status.Status.TheVariants.{Done, BadLine, Dis
 use Rattle.px_calls.specs.Histories.{state_after_all}
 use Rattle.px_calls.specs.Texts.{numbered, opened_line}
 use Rattle.px_script.specs.Lines.{complete_lines}
-use Rattle.px_xlog.specs.declared.change.Change.{Change}
-use Rattle.px_xlog.specs.Reading.{Files, StandsFor, commits_in, rows_in}
+use Rattle.px_told.specs.declared.change.Change.{Change}
+use Rattle.px_xlog.specs.Reading.{Files, StandsFor}
+use Rattle.px_told.specs.Commits.{commits_in}
+use Rattle.px_told.specs.Writes.{rows_in}
 use Rattle.px_xlog.specs.Images.{ImagesStandFor, KeepsStanding}
 use Rattle.px_xlog.specs.Log.{Log, most_frames}
 use Rattle.px_logged.specs.Logged.{logged_by_all}

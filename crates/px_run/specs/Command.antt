@@ -1,6 +1,6 @@
 -- The commands that words are.
 use Rattle.std.specs.Prelude.{◌≤◌, ℕ, Bool, true, false, nat_le, List, [], ◌∷◌, codes, Option, Some, None, option_map, option_and_then, if◌then◌else◌}
-use Rattle.px_restart.specs.declared.restart.TheConstants.{MOST_TABLES, SHORTEST_SHORT, LONGEST_SHORT}
+use Rattle.px_model.specs.declared.limits.TheConstants.{MOST_TABLES, SHORTEST_SHORT, LONGEST_SHORT}
 use Rattle.px_script.specs.Words.{same, number_of}
 use Rattle.px_run.specs.declared.command.Command.{Command}
 use Rattle.px_run.specs.declared.command.Command.TheVariants.{Make, Run, Dump}

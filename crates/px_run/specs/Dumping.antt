@@ -8,8 +8,9 @@ use Rattle.px_model.specs.declared.row.Row.{Row}
 use Rattle.px_calls.specs.declared.status.Status.{Status}
 use Rattle.px_calls.specs.declared.status.Status.TheVariants.{Done, DiskFault, OutputFault, OutOfMemory}
 use Rattle.px_calls.specs.Texts.{count_line, row_line}
-use Rattle.px_xlog.specs.declared.change.Change.{Change}
-use Rattle.px_xlog.specs.Reading.{Files, the_log, first_restart, second_restart, Scans, rows_in}
+use Rattle.px_told.specs.declared.change.Change.{Change}
+use Rattle.px_xlog.specs.Reading.{Files, the_log, first_restart, second_restart, Scans}
+use Rattle.px_told.specs.Writes.{rows_in}
 use Rattle.px_xlog.specs.Images.{IsSettledStore}
 use Rattle.px_run.specs.Told.{TellsInAll}
 

@@ -8,7 +8,7 @@ use Rattle.px_calls.specs.declared.status.Status.{Status}
 use Rattle.px_calls.specs.declared.status.Status.TheVariants.{Done, OutOfMemory}
 use Rattle.px_script.specs.Lines.{lines_at_end}
 use Rattle.px_script.specs.Progress.{longest_input}
-use Rattle.px_xlog.specs.declared.change.Change.{Change}
+use Rattle.px_told.specs.declared.change.Change.{Change}
 use Rattle.px_xlog.specs.Log.{most_frames}
 use Rattle.px_xlog.specs.Reading.{Files}
 use Rattle.px_recovery.specs.Opening.{opened_machine}

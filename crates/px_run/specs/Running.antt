@@ -10,8 +10,9 @@ use Rattle.px_calls.specs.declared.status.Status.TheVariants.{Done, Usage, BadLi
 use Rattle.px_calls.specs.Histories.{state_after_all}
 use Rattle.px_calls.specs.Texts.{opened_line}
 use Rattle.px_script.specs.Lines.{complete_lines, lines_at_end}
-use Rattle.px_xlog.specs.declared.change.Change.{Change}
-use Rattle.px_xlog.specs.Reading.{commits_in, rows_in}
+use Rattle.px_told.specs.declared.change.Change.{Change}
+use Rattle.px_told.specs.Commits.{commits_in}
+use Rattle.px_told.specs.Writes.{rows_in}
 use Rattle.px_xlog.specs.Images.{IsSettledStore}
 use Rattle.px_xlog.specs.Log.{most_frames}
 use Rattle.px_logged.specs.Logged.{logged_by_all}

@@ -9,10 +9,10 @@ use Rattle.px_calls.specs.declared.status.Status.TheVariants.{Done, Usage, NoSto
 use Rattle.px_calls.specs.Closing.{closing_line}
 use Rattle.px_calls.specs.Texts.{row_line}
 use Rattle.px_script.specs.Lines.{lines_at_end}
-use Rattle.px_xlog.specs.declared.change.Change.{Change}
+use Rattle.px_told.specs.declared.change.Change.{Change}
 use Rattle.px_xlog.specs.Images.{IsSettledStore}
 use Rattle.px_xlog.specs.Log.{most_frames}
-use Rattle.px_xlog.specs.Reading.{rows_in}
+use Rattle.px_told.specs.Writes.{rows_in}
 use Rattle.px_logged.specs.Logged.{logged_by_all}
 use Rattle.px_recovery.specs.Opening.{opened_machine}
 use Rattle.px_play.specs.Input.{script_of}

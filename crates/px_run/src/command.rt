@@ -2,8 +2,7 @@
 ghost use Rattle.std.specs.Prelude.{◌≡◌, ◌≤◌, [], ◌∷◌, IfSome};
 ghost use Rattle.px_run.specs.Command.{IsMakeable, command_of, make_of, number_from};
 
-use px_model::WordList;
-use px_restart::{LONGEST_SHORT, MOST_TABLES, SHORTEST_SHORT};
+use px_model::{LONGEST_SHORT, MOST_TABLES, SHORTEST_SHORT, WordList};
 use px_script::number_of;
 
 /// What the words of the command line ask for.

@@ -3,7 +3,8 @@ ghost use Rattle.std.specs.Prelude.{◌≡◌, [], ◌∷◌, ◌++◌, codes, S
 ghost use Rattle.px_play.specs.Acknowledged.{acknowledged};
 ghost use Rattle.px_play.specs.Input.{script_of};
 ghost use Rattle.px_play.specs.Told.{joined};
-ghost use Rattle.px_xlog.specs.Reading.{commits_in, rows_in};
+ghost use Rattle.px_told.specs.Commits.{commits_in};
+ghost use Rattle.px_told.specs.Writes.{rows_in};
 ghost use Rattle.px_logged.specs.Recounting.{rows_now};
 ghost use Rattle.px_run.specs.Command.{command_of};
 ghost use Rattle.px_run.specs.Examples.{small, small_input, small_told};

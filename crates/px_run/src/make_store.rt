@@ -9,8 +9,8 @@ ghost use Rattle.px_run.specs.declared.command.Command.{Command};
 
 use crate::statuses::{status_of_make, status_of_tell};
 use px_calls::{Status, made_line};
+use px_model::{LONGEST_SHORT, MOST_TABLES, SHORTEST_SHORT};
 use px_recovery::make;
-use px_restart::{LONGEST_SHORT, MOST_TABLES, SHORTEST_SHORT};
 use px_site::Site;
 
 /// Makes a store, and then tells its line. The status is Done, NotEmpty, DiskFault, OutputFault or OutOfMemory.

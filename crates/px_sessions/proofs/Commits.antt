@@ -14,9 +14,9 @@ use Rattle.px_model.specs.Rows.{Key, same_key, key_written, row_at, has_write_of
 use Rattle.px_model.specs.Machine.{Machine, view, committed_writes}
 use Rattle.px_model.specs.Chains.{is_put}
 use Rattle.px_calls.specs.Steps.{last_writer}
-use Rattle.px_plain.specs.Seen.{last_of_key, last_committed_of, row_left}
-use Rattle.px_plain.proofs.Overlap.{option_or_none}
-use Rattle.px_plain.proofs.Seen.{last_committed_of-push, row_at-committed, row_at-view}
+use Rattle.px_machine_laws.specs.Seen.{last_of_key, last_committed_of, row_left}
+use Rattle.px_machine_laws.proofs.Overlap.{option_or_none}
+use Rattle.px_machine_laws.proofs.Seen.{last_committed_of-push, row_at-committed, row_at-view}
 use Rattle.px_sessions.specs.declared.newest.Commit.{Commit}
 use Rattle.px_sessions.specs.declared.newest.Entry.{Entry}
 use Rattle.px_sessions.specs.Newest.{last_in, live_in, after_commit}

@@ -13,9 +13,9 @@ use Rattle.px_model.specs.Machine.{Machine, commits, view, committed_writes}
 use Rattle.px_calls.specs.declared.call.Call.TheVariants.{Begin, Hold, Commit, Rollback}
 use Rattle.px_calls.specs.declared.reply.Reply.TheVariants.{Began, OpenAlready, LimitBegins, EndedEmpty, Committed, RolledBack}
 use Rattle.px_calls.specs.Steps.{open_of, open_writer, last_writer, conflict_of, begins_spent, if_open, is_refusal, plus_write, plus_kept, with_slot, with_write, closed, entries_of, new_transaction, reply_of, state_when_done, state_after}
-use Rattle.px_plain.specs.Seen.{last_of_key}
-use Rattle.px_plain.proofs.Begun.{begun-changed, begun-closed, begun-one_more}
-use Rattle.px_plain.proofs.Overlap.{same_key-is, slot_cases, option_or_none}
+use Rattle.px_machine_laws.specs.Seen.{last_of_key}
+use Rattle.px_machine_laws.proofs.Begun.{begun-changed, begun-closed, begun-one_more}
+use Rattle.px_machine_laws.proofs.Overlap.{same_key-is, slot_cases, option_or_none}
 use Rattle.px_locks.specs.Holders.{Holders, holder_of, unless_held_by}
 use Rattle.px_sessions.specs.declared.newest.Commit.{Commit as CommitOf}
 use Rattle.px_sessions.specs.declared.newest.Table.{Table}

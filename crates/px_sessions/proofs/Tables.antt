@@ -12,9 +12,9 @@ use Rattle.px_model.specs.declared.row.Row.{Row}
 use Rattle.px_model.specs.declared.write.Write.{Write}
 use Rattle.px_model.specs.Rows.{Key, same_key, key_of, key_written, row_at, has_write_of}
 use Rattle.px_model.specs.Chains.{is_put}
-use Rattle.px_plain.specs.Seen.{last_of_key}
-use Rattle.px_plain.proofs.Overlap.{same_key-is}
-use Rattle.px_plain.proofs.Seen.{last_of_key-push}
+use Rattle.px_machine_laws.specs.Seen.{last_of_key}
+use Rattle.px_machine_laws.proofs.Overlap.{same_key-is}
+use Rattle.px_machine_laws.proofs.Seen.{last_of_key-push}
 use Rattle.px_locks.proofs.Keys.{same_parts, same_bytes}
 use Rattle.px_locks.proofs.Holders.{same_key-itself}
 use Rattle.px_sessions.specs.declared.newest.Commit.{Commit}

@@ -11,13 +11,13 @@ use Rattle.px_model.specs.declared.write.Write.{Write}
 use Rattle.px_model.specs.Rows.{Key, same_key, key_written, row_at, has_write_of}
 use Rattle.px_model.specs.Machine.{Machine, fresh, no_session}
 use Rattle.px_calls.specs.Steps.{open_of, open_writer, conflict_of, plus_write, with_slot, with_write}
-use Rattle.px_plain.specs.Begun.{WereBegun}
-use Rattle.px_plain.specs.Seen.{last_of_key}
-use Rattle.px_plain.specs.Unwriting.{minus_last, without_last}
-use Rattle.px_plain.specs.Writers.{last_write_of}
-use Rattle.px_plain.proofs.Begun.{begun-none}
-use Rattle.px_plain.proofs.Overlap.{same_key-is, option_or_none}
-use Rattle.px_plain.proofs.Writers.{written_last}
+use Rattle.px_machine_laws.specs.Begun.{WereBegun}
+use Rattle.px_machine_laws.specs.Seen.{last_of_key}
+use Rattle.px_machine_laws.specs.Unwriting.{minus_last, without_last}
+use Rattle.px_machine_laws.specs.Writers.{last_write_of}
+use Rattle.px_machine_laws.proofs.Begun.{begun-none}
+use Rattle.px_machine_laws.proofs.Overlap.{same_key-is, option_or_none}
+use Rattle.px_machine_laws.proofs.Writers.{written_last}
 use Rattle.px_locks.proofs.Holders.{same_key-itself}
 use Rattle.px_locks.specs.Holders.{Holders, holder_of, unless_held_by}
 use Rattle.px_sessions.specs.declared.newest.Table.{Table}

@@ -8,8 +8,8 @@ use Rattle.px_model.specs.declared.machine.Open.{Open}
 use Rattle.px_model.specs.declared.write.Write.{Write}
 use Rattle.px_model.specs.Rows.{Key, same_key, key_written, has_write_of}
 use Rattle.px_calls.specs.Steps.{open_writer, plus_write}
-use Rattle.px_plain.specs.Begun.{WereBegun}
-use Rattle.px_plain.proofs.Overlap.{same_key-is, slot_cases}
+use Rattle.px_machine_laws.specs.Begun.{WereBegun}
+use Rattle.px_machine_laws.proofs.Overlap.{same_key-is, slot_cases}
 use Rattle.px_locks.specs.Holders.{unless_held_by}
 use Rattle.px_sessions.specs.Indexed.{WriteApart}
 

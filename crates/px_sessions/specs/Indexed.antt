@@ -4,7 +4,7 @@ use Rattle.px_model.specs.declared.machine.Open.{Open}
 use Rattle.px_model.specs.Rows.{Key, row_at, has_write_of, after}
 use Rattle.px_model.specs.Machine.{Machine, committed_writes}
 use Rattle.px_calls.specs.Steps.{open_writer}
-use Rattle.px_plain.specs.Begun.{WereBegun}
+use Rattle.px_machine_laws.specs.Begun.{WereBegun}
 use Rattle.px_locks.specs.Holders.{Holders, holder_of}
 use Rattle.px_sessions.specs.declared.newest.Table.{Table}
 use Rattle.px_sessions.specs.Newest.{entry_of, last_in, live_in}

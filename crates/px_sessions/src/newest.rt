@@ -1,7 +1,7 @@
 ghost use Rattle.std.specs.Prelude.{◌≡◌, ◌≤◌, true, false, None, Some, IfOk, OnOk, OnErr, IsSome, is_some, length, take, if◌then◌else◌};
 ghost use Rattle.px_model.specs.Chains.{is_put};
 ghost use Rattle.px_model.specs.Rows.{Key, has_write_of, key_written, row_at};
-ghost use Rattle.px_plain.specs.Seen.{last_of_key};
+ghost use Rattle.px_machine_laws.specs.Seen.{last_of_key};
 ghost use Rattle.px_sessions.specs.declared.newest.TheConstants.{TABLES};
 ghost use Rattle.px_sessions.specs.Newest.{blank, entry_of, entry_in, entry_or, last_in, live_in, with_entry, after_commit, Grows, Puts};
 

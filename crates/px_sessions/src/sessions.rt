@@ -3,7 +3,7 @@ ghost use Rattle.std.specs.Option.{option_copied};
 ghost use Rattle.px_model.specs.Machine.{commits, fresh, published, view};
 ghost use Rattle.px_model.specs.Rows.{row_at};
 ghost use Rattle.px_calls.specs.Steps.{open_of, conflict_of};
-ghost use Rattle.px_plain.specs.Writers.{last_write_of, writer_of};
+ghost use Rattle.px_machine_laws.specs.Writers.{last_write_of, writer_of};
 
 mod beginning;
 mod ending;

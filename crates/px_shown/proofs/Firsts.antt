@@ -12,7 +12,7 @@ use Rattle.px_chain.proofs.Walks.{contains_none, contains_cases}
 use Rattle.px_model.specs.declared.write.Write.{Write}
 use Rattle.px_model.specs.Rows.{key_written}
 use Rattle.px_model_laws.specs.Keys.{row_written}
-use Rattle.px_plain.specs.Seen.{row_left}
+use Rattle.px_machine_laws.specs.Seen.{row_left}
 use Rattle.px_shown.specs.Shown.{Done, done_with, write_in, write_of, first_done, row_shown}
 use Rattle.px_shown.specs.Writes.{first_of, HasNoneOf, HasNoneDone, IsInFront}
 use Rattle.px_shown.specs.Changes.{left_of}

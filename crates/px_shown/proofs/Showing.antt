@@ -10,8 +10,8 @@ use Rattle.px_model.specs.declared.write.Write.{Write}
 use Rattle.px_model.specs.Rows.{Key, row_at, after}
 use Rattle.px_model_laws.proofs.RowsAsMap.{row_at-after}
 use Rattle.px_model_laws.proofs.Laws.{rows_are_their_answers, rows_stay_in_order}
-use Rattle.px_plain.specs.Seen.{last_of_key, row_left}
-use Rattle.px_plain.proofs.Seen.{newest-last}
+use Rattle.px_machine_laws.specs.Seen.{last_of_key, row_left}
+use Rattle.px_machine_laws.proofs.Seen.{newest-last}
 use Rattle.px_shown.specs.Tables.{Tables, Layouts, AreSound, with_layout, slots_of_row}
 use Rattle.px_shown.specs.Shown.{Done, done_with, write_of, row_shown, Shows}
 use Rattle.px_shown.specs.Writes.{AreInFront, AreWritesOf}

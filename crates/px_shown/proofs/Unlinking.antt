@@ -8,7 +8,7 @@ use Rattle.px_chain.specs.Sound.{IsUsedRow, key_of}
 use Rattle.px_model.specs.declared.row.Row.{Row}
 use Rattle.px_model.specs.declared.write.Write.{Write}
 use Rattle.px_model.specs.Rows.{Key, row_at}
-use Rattle.px_plain.specs.Seen.{row_left}
+use Rattle.px_machine_laws.specs.Seen.{row_left}
 use Rattle.px_shown.specs.Tables.{Tables, Layouts, AreSound, slots_of_row}
 use Rattle.px_shown.specs.Shown.{Done, write_of, row_shown, AreToldByChains, Shows}
 use Rattle.px_shown.specs.Writes.{HasNoneOf, HasNoneDone, IsInFront, AreInFront, AreWritesOf}

@@ -10,8 +10,8 @@ use Rattle.px_chain.specs.Sound.{IsUsedRow, Layout, key_of}
 use Rattle.px_chain.specs.Links.{IsStored}
 use Rattle.px_model.specs.declared.write.Write.{Write}
 use Rattle.px_model.specs.Rows.{Key, same_key}
-use Rattle.px_plain.specs.Seen.{last_of_key}
-use Rattle.px_plain.proofs.Seen.{last_of_key-push}
+use Rattle.px_machine_laws.specs.Seen.{last_of_key}
+use Rattle.px_machine_laws.proofs.Seen.{last_of_key-push}
 use Rattle.px_shown.specs.Tables.{Tables, Layouts, AreSound, with_layout, slots_of_row}
 use Rattle.px_shown.specs.Shown.{Done, done_with, write_of}
 use Rattle.px_shown.specs.Writes.{first_of, HasNoneOf, IsInFront, AreInFront, AreWritesOf}

@@ -8,7 +8,7 @@ use Rattle.px_model.specs.declared.row.Row.{Row}
 use Rattle.px_model.specs.declared.write.Write.{Write}
 use Rattle.px_model.specs.declared.write.Write.TheVariants.{Put, Delete}
 use Rattle.px_model.specs.Rows.{Key, in_order, row_at}
-use Rattle.px_plain.specs.Seen.{row_left}
+use Rattle.px_machine_laws.specs.Seen.{row_left}
 use Rattle.px_shown.specs.Tables.{Tables, Layouts, slots_of_row}
 
 -- of the stored numbers of transactions: what this one wrote counts

@@ -3,7 +3,7 @@ use Rattle.std.specs.Prelude.{◌≡◌, ℕ, ◌==◌, ◌++◌, false, List, A
 use Rattle.px_cells.specs.declared.slot.Slot.{Slot}
 use Rattle.px_chain.specs.Sound.{IsUsedRow}
 use Rattle.px_model.specs.declared.write.Write.{Write}
-use Rattle.px_plain.specs.Seen.{last_of_key}
+use Rattle.px_machine_laws.specs.Seen.{last_of_key}
 use Rattle.px_shown.specs.Tables.{Tables, Layouts, slots_of_row}
 use Rattle.px_shown.specs.Shown.{Done, AreToldByChains, write_of}
 

@@ -8,7 +8,7 @@ ghost use Rattle.px_model.specs.declared.row.Row.{Row};
 ghost use Rattle.px_model.specs.declared.write.Write.{Write};
 ghost use Rattle.px_model.specs.Rows.{Key, after};
 ghost use Rattle.px_model_laws.specs.Keys.{row_written};
-ghost use Rattle.px_plain.specs.Seen.{last_of_key};
+ghost use Rattle.px_machine_laws.specs.Seen.{last_of_key};
 ghost use Rattle.px_shown.specs.Changes.{IsLink, layouts_unlinked, left_of, with_link, with_unlink};
 ghost use Rattle.px_shown.specs.Example.{done_up_to, one_place, row_with, versions};
 ghost use Rattle.px_shown.specs.Shown.{Done, Shows, done_with, first_done, row_of, row_shown, write_of};

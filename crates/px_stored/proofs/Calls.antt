@@ -11,15 +11,16 @@ use Rattle.px_model.specs.Machine.{Machine, commits}
 use Rattle.px_calls.specs.declared.call.Call.{Call}
 use Rattle.px_calls.specs.declared.call.Call.TheVariants.{Commit}
 use Rattle.px_calls.specs.Steps.{state_after}
-use Rattle.px_xlog.specs.declared.change.Change.{Change}
+use Rattle.px_told.specs.declared.change.Change.{Change}
 use Rattle.px_xlog.specs.Payload.{may_hold, may_hold_all}
-use Rattle.px_xlog.specs.Reading.{the_log, CountsFrom, commits_in}
+use Rattle.px_xlog.specs.Reading.{the_log}
+use Rattle.px_told.specs.Commits.{CountsFrom, commits_in}
 use Rattle.px_xlog.specs.Log.{Log, IsLogOf, HasFirst, with_frame}
 use Rattle.px_xlog.proofs.FramesOfChanges.{hold_more}
 use Rattle.px_logged.specs.Growing.{KeepsCommitted}
 use Rattle.px_logged.specs.Logged.{logged}
 use Rattle.px_logged.specs.Recounting.{Recounts, rows_now}
-use Rattle.px_logged.proofs.Fronts.{counts_more}
+use Rattle.px_logged.proofs.Numbered.{counts_more}
 use Rattle.px_logged.proofs.Grown.{others_keep_committed}
 use Rattle.px_logged.proofs.Recounted.{call_recounts}
 use Rattle.px_stored.specs.Stored.{Stored, StandsForEither, ReadsImages}

@@ -14,9 +14,11 @@ use Rattle.px_restart.specs.declared.text.TheConstants.{VERSION}
 use Rattle.px_restart.specs.Restart.{restart_text}
 use Rattle.px_model.specs.declared.row.Row.{Row}
 use Rattle.px_model.specs.Machine.{Machine, commits}
-use Rattle.px_xlog.specs.declared.change.Change.{Change}
+use Rattle.px_told.specs.declared.change.Change.{Change}
 use Rattle.px_xlog.specs.Payload.{change_text, may_hold_all}
-use Rattle.px_xlog.specs.Reading.{Files, the_log, log_text, first_restart, second_restart, commits_in, rows_in, StandsFor}
+use Rattle.px_xlog.specs.Reading.{Files, the_log, log_text, first_restart, second_restart, StandsFor}
+use Rattle.px_told.specs.Commits.{commits_in}
+use Rattle.px_told.specs.Writes.{rows_in}
 use Rattle.px_xlog.specs.Images.{HasAt, IsBehind, IsPlainRestart, IsPlainLog, IsPlainImage, Settled, IsSettledStore}
 use Rattle.px_xlog.specs.Log.{Log, HasFirst, IsLogOf, appended, grown_file}
 use Rattle.px_xlog.proofs.Appending.{appended_behind, log_parts, first_survive}

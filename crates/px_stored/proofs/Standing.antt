@@ -13,16 +13,18 @@ use Rattle.px_scan.proofs.Scans.{frames_of-frames}
 use Rattle.px_restart.specs.declared.restart.Restart.{Restart}
 use Rattle.px_restart.specs.Restart.{IsPicked}
 use Rattle.px_model.specs.Machine.{Machine, commits}
-use Rattle.px_xlog.specs.declared.change.Change.{Change}
+use Rattle.px_told.specs.declared.change.Change.{Change}
 use Rattle.px_xlog.specs.Payload.{change_text, may_hold, may_hold_all}
-use Rattle.px_xlog.specs.Reading.{Files, the_log, first_restart, second_restart, log_text, CountsFrom, Says, StandsFor, commits_in, rows_in}
+use Rattle.px_xlog.specs.Reading.{Files, the_log, first_restart, second_restart, log_text, Says, StandsFor}
+use Rattle.px_told.specs.Commits.{CountsFrom, commits_in}
+use Rattle.px_told.specs.Writes.{rows_in}
 use Rattle.px_xlog.specs.Images.{IsPlainImage}
 use Rattle.px_xlog.specs.Log.{Log, IsLogOf, HasFirst}
 use Rattle.px_xlog.proofs.AtRest.{image_of_rest}
 use Rattle.px_xlog.proofs.FramesOfChanges.{can_frames}
-use Rattle.px_logged.specs.Fronts.{HasAll}
+use Rattle.px_told.specs.Commits.{HasAll}
 use Rattle.px_logged.specs.Recounting.{Recounts, rows_now}
-use Rattle.px_logged.proofs.Fronts.{kept_has_all}
+use Rattle.px_told.proofs.Commits.{kept_has_all}
 use Rattle.px_stored.specs.Stored.{RestartsRest, Stored, HasCommitted, StandsForEither, ReadsImages}
 
 -- ---- one image

@@ -6,8 +6,9 @@ use Rattle.px_site.specs.Disk.{IsImage, at_rest}
 use Rattle.px_site.specs.State.{State, Moment}
 use Rattle.px_restart.specs.declared.restart.Restart.{Restart}
 use Rattle.px_model.specs.Machine.{Machine, commits}
-use Rattle.px_xlog.specs.declared.change.Change.{Change}
-use Rattle.px_xlog.specs.Reading.{Files, first_restart, second_restart, Says, StandsFor, commits_in}
+use Rattle.px_told.specs.declared.change.Change.{Change}
+use Rattle.px_xlog.specs.Reading.{Files, first_restart, second_restart, Says, StandsFor}
+use Rattle.px_told.specs.Commits.{commits_in}
 use Rattle.px_xlog.specs.Images.{IsPlainImage, IsSettledStore}
 use Rattle.px_xlog.specs.Log.{Log, IsLogOf}
 use Rattle.px_logged.specs.Recounting.{Recounts, rows_now}

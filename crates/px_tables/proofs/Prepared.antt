@@ -3,12 +3,12 @@ use Rattle.std.proofs.Common.{◌≡◌, ◌≢◌, ℕ, ◌<◌, ◌≤◌, tru
 use Rattle.std.proofs.Math.Nat.{min-eq_left}
 use Rattle.std.proofs.lemmas.Bool.{and_parts, eq-eqb, le-leb, leb-true}
 use Rattle.std.proofs.lemmas.List.{get_or_default}
-use Rattle.px_restart.specs.declared.restart.TheConstants.{LONGEST_SHORT}
+use Rattle.px_model.specs.declared.limits.TheConstants.{LONGEST_SHORT}
 use Rattle.px_model.specs.declared.limits.TheConstants.{LONGEST_KEY}
 use Rattle.px_model.specs.declared.write.Write.{Write}
 use Rattle.px_model.specs.declared.write.Write.TheVariants.{Put, Delete}
 use Rattle.px_cells.specs.declared.header.Header.{Header}
-use Rattle.px_cells.specs.declared.limits.TheConstants.{LONGEST_BODY}
+use Rattle.px_model.specs.declared.limits.TheConstants.{LONGEST_BODY}
 use Rattle.px_cells.specs.declared.slot.Slot.{Slot}
 use Rattle.px_cells.specs.declared.slot.SlotState.TheVariants.{Free, Row, Deletion}
 use Rattle.px_cells.specs.Form.{is_short, is_slot}

@@ -7,7 +7,7 @@ use Rattle.std.proofs.lemmas.List.{drop-map, length-append, length-map, length-t
 use Rattle.px_cells.specs.declared.slot.Slot.{Slot}
 use Rattle.px_cells.specs.declared.slot.SlotState.{SlotState}
 use Rattle.px_cells.specs.declared.slot.SlotState.TheVariants.{Free, Row, Deletion}
-use Rattle.px_plain.specs.Seen.{row_left}
+use Rattle.px_machine_laws.specs.Seen.{row_left}
 use Rattle.px_model.specs.declared.row.Row.{Row as RowOf}
 use Rattle.px_shown.specs.Changes.{left_of}
 use Rattle.px_shown.specs.Shown.{Done, row_shown, write_in, write_of}

@@ -4,8 +4,8 @@ use Rattle.std.specs.Prelude.{is_some}
 use Rattle.std.proofs.lemmas.List.{length-map}
 use Rattle.std.proofs.lemmas.List.Sums.{count_by-le-length}
 use Rattle.px_model.specs.declared.limits.TheConstants.{MOST_BEGINS, MOST_WRITES, SESSIONS, STORED_NUMBERS_END}
-use Rattle.px_cells.specs.declared.standing.Standing.{Standing}
-use Rattle.px_cells.specs.declared.standing.Standing.TheVariants.{Open}
+use Rattle.px_model.specs.declared.standing.Standing.{Standing}
+use Rattle.px_model.specs.declared.standing.Standing.TheVariants.{Open}
 use Rattle.px_xacts.specs.declared.transaction.Transaction.{Transaction}
 use Rattle.px_xacts.specs.declared.transaction.Outcome.{Outcome}
 use Rattle.px_xacts.specs.declared.transaction.Unswept.{Unswept}

@@ -4,7 +4,7 @@ use Rattle.std.specs.Prelude.{All, IfSome, unwrap_or}
 use Rattle.std.proofs.lemmas.Option.{none-some, same_Some}
 use Rattle.std.proofs.lemmas.List.Elements.{All-head, All-tail, All-weaker}
 use Rattle.px_model.specs.Machine.{lower_of}
-use Rattle.px_cells.specs.declared.standing.Standing.{Standing}
+use Rattle.px_model.specs.declared.standing.Standing.{Standing}
 use Rattle.px_xacts.specs.declared.transaction.Transaction.{Transaction}
 use Rattle.px_xacts.specs.declared.transaction.Start.{Start}
 use Rattle.px_xacts.specs.declared.transaction.Outcome.{Outcome}

@@ -6,7 +6,7 @@ use Rattle.std.proofs.lemmas.Option.{none-some}
 use Rattle.std.proofs.lemmas.List.{get_or_past, set_past, get_or_default}
 use Rattle.std.proofs.lemmas.List.Sums.{sum_by-set, sum_by-le}
 use Rattle.px_model.specs.declared.limits.TheConstants.{MOST_WRITES}
-use Rattle.px_cells.specs.declared.standing.Standing.{Standing}
+use Rattle.px_model.specs.declared.standing.Standing.{Standing}
 use Rattle.px_xacts.specs.declared.transaction.Transaction.{Transaction}
 use Rattle.px_xacts.specs.declared.transaction.Outcome.{Outcome}
 use Rattle.px_xacts.specs.declared.transaction.Unswept.{Unswept}

@@ -2,8 +2,8 @@
 use Rattle.std.proofs.Common.{◌≡◌, ℕ, suc, ◌+◌, ◌-◌, ◌≤◌, Bool, true, false, cond, eqb, inl, inr, List, [], ◌∷◌, ◌++◌, length, get_or, set, refl, sym, ap, ◌∙◌, arith, rules}
 use Rattle.std.proofs.lemmas.Bool.{false≢true, cases_eq, ne_eqb}
 use Rattle.std.proofs.lemmas.List.{get_or-set_same, get_or-set_other}
-use Rattle.px_cells.specs.declared.standing.Standing.{Standing}
-use Rattle.px_cells.specs.declared.standing.Standing.TheVariants.{Before, Open, RolledBack, Committed}
+use Rattle.px_model.specs.declared.standing.Standing.{Standing}
+use Rattle.px_model.specs.declared.standing.Standing.TheVariants.{Before, Open, RolledBack, Committed}
 use Rattle.px_xacts.specs.declared.transaction.Outcome.{Outcome}
 use Rattle.px_xacts.specs.Transactions.{standing_at, standing_from}
 use Rattle.px_xacts.specs.Sound.{AreStandings}

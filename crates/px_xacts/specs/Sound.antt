@@ -1,8 +1,8 @@
 -- What holds of the transactions of a store at every time: their numbers are their own.
 use Rattle.std.specs.Prelude.{◌≡◌, ◌<◌, ◌≤◌, ℕ, ◌+◌, List, All, length, count_by, sum_by, Option, Some, None, is_some, slice_get, slice_index_or}
 use Rattle.px_model.specs.declared.limits.TheConstants.{MOST_BEGINS, MOST_WRITES, SESSIONS, STORED_NUMBERS_END}
-use Rattle.px_cells.specs.declared.standing.Standing.{Standing}
-use Rattle.px_cells.specs.declared.standing.Standing.TheVariants.{Open}
+use Rattle.px_model.specs.declared.standing.Standing.{Standing}
+use Rattle.px_model.specs.declared.standing.Standing.TheVariants.{Open}
 use Rattle.px_xacts.specs.declared.transaction.Transaction.{Transaction}
 use Rattle.px_xacts.specs.declared.transaction.Outcome.{Outcome}
 use Rattle.px_xacts.specs.declared.transaction.Unswept.{Unswept}

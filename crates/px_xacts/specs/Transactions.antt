@@ -3,8 +3,8 @@
 use Rattle.std.specs.Prelude.{◌≡◌, ◌<◌, ◌≤◌, ℕ, ◌+◌, ◌-◌, Bool, true, false, ◌||◌, ◌==◌, nat_lt, nat_le, List, [], ◌∷◌, ◌++◌, map, length, take, Option, Some, None, is_some, option_map, unwrap_or, if◌then◌else◌, slice_get, slice_index_or, slice_set}
 use Rattle.px_model.specs.declared.limits.TheConstants.{MOST_BEGINS, STORED_NUMBERS_END}
 use Rattle.px_model.specs.Machine.{lower_of}
-use Rattle.px_cells.specs.declared.standing.Standing.{Standing}
-use Rattle.px_cells.specs.declared.standing.Standing.TheVariants.{Before, Open, RolledBack, Committed}
+use Rattle.px_model.specs.declared.standing.Standing.{Standing}
+use Rattle.px_model.specs.declared.standing.Standing.TheVariants.{Before, Open, RolledBack, Committed}
 use Rattle.px_xacts.specs.declared.write.WriteAt.{WriteAt}
 use Rattle.px_xacts.specs.declared.transaction.Transaction.{Transaction}
 use Rattle.px_xacts.specs.declared.transaction.Start.{Start}

@@ -11,8 +11,7 @@ mod sweeping;
 mod writing;
 
 use crate::transaction::{Outcome, Transaction, Unswept};
-use px_cells::Standing;
-use px_model::{SESSIONS, Session};
+use px_model::{SESSIONS, Session, Standing};
 use std::alloc::{AllocError, Global};
 use std::collections::VecDeque;
 use std::marker::Model;

@@ -20,7 +20,7 @@ use Rattle.px_calls.specs.declared.reply.Reply.TheVariants.{Began, OpenAlready, 
 use Rattle.px_xacts.specs.declared.answers.Begun.TheVariants.{Number}
 use Rattle.px_xacts.specs.declared.answers.Begun.TheVariants as xacts_answers
 use Rattle.px_calls.specs.Steps.{begins_spent, is_refusal, reply_of, state_after, state_when_done, open_of, with_slot, with_write, plus_write, plus_kept, entries_of, closed, new_transaction}
-use Rattle.px_plain.specs.Unwriting.{minus_last, without_last}
+use Rattle.px_machine_laws.specs.Unwriting.{minus_last, without_last}
 use Rattle.px_xacts.specs.declared.write.WriteAt.{WriteAt}
 use Rattle.px_xacts.specs.declared.transaction.Transaction.{Transaction}
 use Rattle.px_xacts.specs.declared.transaction.Outcome.{Outcome}

@@ -7,7 +7,7 @@ ghost use Rattle.px_model.specs.Rows.{key_written};
 ghost use Rattle.px_calls.specs.declared.call.Call.{Call};
 ghost use Rattle.px_calls.specs.Steps.{closed, open_of, reply_of, state_after, with_write};
 ghost use Rattle.px_calls.specs.Sweeps.{sweep_reply, swept_state};
-ghost use Rattle.px_plain.specs.Unwriting.{without_last};
+ghost use Rattle.px_machine_laws.specs.Unwriting.{without_last};
 ghost use Rattle.px_xacts.specs.declared.write.WriteAt.{WriteAt};
 ghost use Rattle.px_xacts.specs.Transactions as xacts;
 ghost use Rattle.px_xacts.specs.Transactions.{Transactions};

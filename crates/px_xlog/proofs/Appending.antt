@@ -9,7 +9,7 @@ use Rattle.px_scan.specs.Scan.{frames, frames_of, CanFrames}
 use Rattle.px_scan.specs.Crash.{written, appends, IsPlainSince}
 use Rattle.px_scan.proofs.Recovery.{Agrees, Recovers, survives}
 use Rattle.px_scan.proofs.Written.{frames-append, frames-split, written-front}
-use Rattle.px_xlog.specs.declared.change.Change.{Change}
+use Rattle.px_told.specs.declared.change.Change.{Change}
 use Rattle.px_xlog.specs.Payload.{change_text}
 use Rattle.px_xlog.specs.Reading.{log_text}
 use Rattle.px_xlog.specs.Images.{HasAt, IsPlainLog, IsBehind}

@@ -13,7 +13,7 @@ use Rattle.px_scan.specs.Scan.{frames, frames_of}
 use Rattle.px_xlog.specs.Log.{IsCutting, OnlyGrew, ReadsAsBefore}
 use Rattle.px_xlog.specs.Reading.{the_log, log_text}
 use Rattle.px_xlog.specs.Scanning.{ScansTo}
-use Rattle.px_xlog.specs.declared.change.Change.{Change}
+use Rattle.px_told.specs.declared.change.Change.{Change}
 use Rattle.px_xlog.proofs.AtRest.{image_of_rest}
 use Rattle.px_xlog.proofs.Cuts.{IsCut, cut_reads}
 

@@ -1,7 +1,7 @@
 -- Which change a frame holds.
 use Rattle.std.proofs.Common.{◌≡◌, ℕ, true, false, List, sym, ap, ◌∙◌}
 use Rattle.std.proofs.lemmas.Bool.{and_parts, and_from, false≢true}
-use Rattle.px_xlog.specs.declared.change.Change.{Change}
+use Rattle.px_told.specs.declared.change.Change.{Change}
 use Rattle.px_xlog.specs.Payload.{change_text, is_change, is_within, may_hold, HoldsChange}
 use Rattle.px_xlog.specs.Scanning.{IsForeign}
 use Rattle.px_xlog.proofs.OneChange.{one_change}

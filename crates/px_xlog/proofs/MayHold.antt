@@ -3,7 +3,7 @@ use Rattle.std.proofs.Common.{◌≡◌, ℕ, ◌+◌, ◌^◌, ◌<◌, ◌≤�
 use Rattle.std.proofs.lemmas.Bool.{and_from, lt-ltb, le-leb}
 use Rattle.px_model.specs.declared.row.Row.{Row}
 use Rattle.px_model.specs.declared.write.Write.TheVariants.{Put as PutRow, Delete}
-use Rattle.px_xlog.specs.declared.change.Change.TheVariants.{Put, Commit, Rollback}
+use Rattle.px_told.specs.declared.change.Change.TheVariants.{Put, Commit, Rollback}
 use Rattle.px_xlog.specs.Payload.{is_stored, is_place, is_write, is_change, may_hold, longest_key, longest_key_and_body}
 
 stored : (xn : ℕ) → 1 ≤ xn → xn < 2 ^ 62 → is_stored xn ≡ true

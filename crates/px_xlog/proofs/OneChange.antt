@@ -3,8 +3,8 @@ use Rattle.std.proofs.Common.{◌≡◌, ℕ, ◌^◌, ◌<◌, true, false, nat
 use Rattle.std.proofs.lemmas.Bool.{and_parts}
 use Rattle.std.proofs.lemmas.Bool.Decides.{nat_tests}
 use Rattle.px_model.specs.declared.write.Write.{Write}
-use Rattle.px_xlog.specs.declared.change.Change.{Change}
-use Rattle.px_xlog.specs.declared.change.Change.TheVariants.{Put, Commit, Rollback}
+use Rattle.px_told.specs.declared.change.Change.{Change}
+use Rattle.px_told.specs.declared.change.Change.TheVariants.{Put, Commit, Rollback}
 use Rattle.px_xlog.specs.Fields.{HoldsWrite}
 use Rattle.px_xlog.specs.Payload.{head, write_text, is_stored, is_write, is_change, HoldsChange}
 use Rattle.px_xlog.proofs.Payloads.{SameHead, same_head, stored_fits, Parts, put_parts, commit_parts, rollback_parts}

@@ -5,8 +5,8 @@ use Rattle.std.proofs.lemmas.Bool.{and_parts, and_from, ltb-true, lt-ltb, leb-tr
 use Rattle.std.proofs.lemmas.Bool.Decides.{nat_tests}
 use Rattle.px_bytes.proofs.Numbers.{one_u64}
 use Rattle.px_model.specs.declared.write.Write.{Write}
-use Rattle.px_xlog.specs.declared.change.Change.{Change}
-use Rattle.px_xlog.specs.declared.change.Change.TheVariants.{Put, Commit, Rollback}
+use Rattle.px_told.specs.declared.change.Change.{Change}
+use Rattle.px_told.specs.declared.change.Change.TheVariants.{Put, Commit, Rollback}
 use Rattle.px_xlog.specs.Fields.{ends, IsEnd, HoldsWrite}
 use Rattle.px_xlog.specs.Payload.{head, write_text, change_text, is_stored, is_write, is_change, HoldsChange}
 

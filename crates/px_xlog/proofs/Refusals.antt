@@ -2,7 +2,7 @@
 use Rattle.std.proofs.Common.{◌≡◌, ℕ, ◌<◌, true, List, length, inl, arith}
 use Rattle.px_site.specs.Cause.{Counts}
 use Rattle.px_site.specs.State.{State}
-use Rattle.px_xlog.specs.declared.change.Change.{Change}
+use Rattle.px_told.specs.declared.change.Change.{Change}
 use Rattle.px_xlog.specs.declared.error.LogError.{LogError}
 use Rattle.px_xlog.specs.declared.error.LogError.TheVariants.{OutOfMemory, Fault as FaultOf, Damaged, LogFull}
 use Rattle.px_xlog.specs.Errors.{LeavesSite}

@@ -13,8 +13,10 @@ use Rattle.px_restart.specs.declared.restart.Restart.{Restart}
 use Rattle.px_restart.specs.Restart.{RestartAt, restart_text}
 use Rattle.px_restart.specs.declared.text.TheConstants.{VERSION}
 use Rattle.px_model.specs.declared.row.Row.{Row}
-use Rattle.px_xlog.specs.declared.change.Change.{Change as LogChange}
-use Rattle.px_xlog.specs.Reading.{Files, the_log, first_restart, second_restart, Says, StandsFor, HasNoRestart, commits_in, rows_in}
+use Rattle.px_told.specs.declared.change.Change.{Change as LogChange}
+use Rattle.px_xlog.specs.Reading.{Files, the_log, first_restart, second_restart, Says, StandsFor, HasNoRestart}
+use Rattle.px_told.specs.Commits.{commits_in}
+use Rattle.px_told.specs.Writes.{rows_in}
 
 abbrev pub HasAt : List ℕ → ℕ → List ℕ → Type 0
 HasAt content place bytes = take (length bytes) (drop place content) ≡ bytes

@@ -5,8 +5,8 @@ use Rattle.px_site.specs.Disk.{Change as DiskChange, Wrote, Cut, FileState, IsIm
 use Rattle.px_site.specs.State.{State}
 use Rattle.px_frame.specs.Frame.{frame}
 use Rattle.px_scan.specs.Scan.{frames_of}
-use Rattle.px_xlog.specs.declared.change.Change.{Change}
-use Rattle.px_xlog.specs.declared.change.Change.TheVariants.{Put, Commit, Rollback}
+use Rattle.px_told.specs.declared.change.Change.{Change}
+use Rattle.px_told.specs.declared.change.Change.TheVariants.{Put, Commit, Rollback}
 use Rattle.px_xlog.specs.Payload.{change_text, may_hold_all}
 use Rattle.px_xlog.specs.Reading.{the_log, log_text}
 use Rattle.px_xlog.specs.Images.{IsPlainLog, IsBehind}
@@ -27,12 +27,6 @@ most_frames = 4294967296
 
 abbrev pub full_at : Log → Option ℕ
 full_at log = if nat_lt log.frames most_frames then None else Some log.frames
-
--- a change without a row ends a transaction
-abbrev pub is_end : Change → Bool
-is_end (Put xn write) = false
-is_end (Commit xn commit) = true
-is_end (Rollback xn) = true
 
 -- the log with one frame more
 abbrev pub with_frame : Change → Log → Log

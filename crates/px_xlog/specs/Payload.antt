@@ -3,8 +3,8 @@ use Rattle.std.specs.Prelude.{◌≡◌, ℕ, ◌+◌, Bool, true, ◌&&◌, nat
 use Rattle.std.specs.Int.{w16, w32, w64, to_be_bytes}
 use Rattle.px_model.specs.declared.write.Write.{Write}
 use Rattle.px_model.specs.declared.write.Write.TheVariants.{Put as PutRow, Delete}
-use Rattle.px_xlog.specs.declared.change.Change.{Change}
-use Rattle.px_xlog.specs.declared.change.Change.TheVariants.{Put, Commit, Rollback}
+use Rattle.px_told.specs.declared.change.Change.{Change}
+use Rattle.px_told.specs.declared.change.Change.TheVariants.{Put, Commit, Rollback}
 
 -- ---- the text
 

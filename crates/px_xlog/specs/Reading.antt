@@ -8,8 +8,8 @@ use Rattle.px_scan.specs.Scan.{frames, frames_of}
 use Rattle.px_model.specs.declared.row.Row.{Row}
 use Rattle.px_model.specs.declared.write.Write.{Write}
 use Rattle.px_model.specs.Rows.{after}
-use Rattle.px_xlog.specs.declared.change.Change.{Change}
-use Rattle.px_xlog.specs.declared.change.Change.TheVariants.{Put, Commit, Rollback}
+use Rattle.px_told.specs.declared.change.Change.{Change}
+use Rattle.px_told.specs.declared.change.Change.TheVariants.{Put, Commit, Rollback}
 use Rattle.px_xlog.specs.Payload.{change_text, may_hold, may_hold_all}
 
 -- until there are segments, the log is one file, and its frames are numbered from 0
@@ -30,13 +30,6 @@ second_restart files = files (RestartFile 1)
 unfoldable pub log_text : List Change → List ℕ
 log_text changes = frames 0 (map change_text changes)
 
--- the Commits are numbered on from there, without gaps
-abbrev pub CountsFrom : ℕ → List Change → Type 0
-CountsFrom last [] = Unit {0}
-CountsFrom last (Put xn write ∷ changes) = CountsFrom last changes
-CountsFrom last (Commit xn commit ∷ changes) = (commit ≡ last + 1) × CountsFrom commit changes
-CountsFrom last (Rollback xn ∷ changes) = CountsFrom last changes
-
 -- the log's frames are these changes, each in a frame that may hold it, and no durable one is missing
 pub record Scans (restart : Restart) (bytes : List ℕ) (changes : List Change) : Type 0 where
   pub scanned : frames_of bytes 0 ≡ map change_text changes
@@ -50,42 +43,6 @@ pub record Says (files : Files) (restart : Restart) (changes : List Change) : Ty
   pub counted : CountsFrom 0 changes
 
 -- ---- what the changes stand for
-
--- the last Commit's number, or this one where there is none
-abbrev pub last_commit : ℕ → List Change → ℕ
-last_commit last [] = last
-last_commit last (Put xn write ∷ changes) = last_commit last changes
-last_commit last (Commit xn commit ∷ changes) = last_commit commit changes
-last_commit last (Rollback xn ∷ changes) = last_commit last changes
-
-unfoldable pub commits_in : List Change → ℕ
-commits_in changes = last_commit 0 changes
-
--- the writes of a transaction, in order
-abbrev pub writes_of : ℕ → List Change → List Write
-writes_of xn [] = []
-writes_of xn (Put by write ∷ changes) = if by == xn then write ∷ writes_of xn changes else writes_of xn changes
-writes_of xn (Commit by commit ∷ changes) = writes_of xn changes
-writes_of xn (Rollback by ∷ changes) = writes_of xn changes
-
--- at each Commit the writes of its number before it, in the order of the Commits
-abbrev pub committed_after : List Change → List Change → List Write
-committed_after before [] = []
-committed_after before (Put xn write ∷ changes) = committed_after (before ++ Put xn write ∷ []) changes
-committed_after before (Commit xn commit ∷ changes) = writes_of xn before ++ committed_after (before ++ Commit xn commit ∷ []) changes
-committed_after before (Rollback xn ∷ changes) = committed_after (before ++ Rollback xn ∷ []) changes
-
-unfoldable pub rows_in : List Change → List Row
-rows_in changes = after [] (committed_after [] changes)
-
-abbrev pub stored_number : Change → ℕ
-stored_number (Put xn write) = xn
-stored_number (Commit xn commit) = xn
-stored_number (Rollback xn) = xn
-
-abbrev pub greatest_stored : ℕ → List Change → ℕ
-greatest_stored most [] = most
-greatest_stored most (change ∷ changes) = greatest_stored (max most (stored_number change)) changes
 
 -- the number before that of the first transaction of the next run
 unfoldable pub base_after : Restart → List Change → ℕ

@@ -2,7 +2,7 @@
 use Rattle.std.specs.Prelude.{◌≡◌, ◌≢◌, ℕ, ◌+◌, true, List, ◌++◌, length, map, drop}
 use Rattle.px_frame.specs.Frame.{FrameAt}
 use Rattle.px_scan.specs.Scan.{frames_of}
-use Rattle.px_xlog.specs.declared.change.Change.{Change}
+use Rattle.px_told.specs.declared.change.Change.{Change}
 use Rattle.px_xlog.specs.declared.error.LogError.{LogError}
 use Rattle.px_xlog.specs.declared.error.LogError.TheVariants.{OutOfMemory, Fault as FaultOf, Damaged, LogFull}
 use Rattle.px_xlog.specs.Payload.{change_text, may_hold}

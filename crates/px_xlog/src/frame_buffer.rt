@@ -1,11 +1,11 @@
 ghost use Rattle.std.specs.Prelude.{◌≡◌, ◌^◌, ◌<◌, [], ◌∷◌, ◌++◌, true, OnOk, OnErr};
 ghost use Rattle.px_frame.specs.Frame.{frame};
-ghost use Rattle.px_xlog.specs.Log.{is_end};
+ghost use Rattle.px_told.specs.Changes.{is_end};
 ghost use Rattle.px_xlog.specs.Payload.{change_text, head, is_change};
 
-use crate::Change;
 use crate::payload::{END_SIZE, KIND_COMMIT, KIND_ROLLBACK, end_bytes, put_change};
 use px_frame::{HEADER_SIZE, frame_header, write_frame};
+use px_told::Change;
 use std::alloc::{AllocError, Global};
 use std::marker::Model;
 

@@ -5,9 +5,11 @@ ghost use Rattle.px_scan.specs.Scan.{frames_of};
 ghost use Rattle.px_model.specs.declared.write.Write.TheVariants.{Put as PutRow, Delete};
 ghost use Rattle.px_xlog.specs.Examples.{aa, begun_log, ended_log};
 ghost use Rattle.px_xlog.specs.Payload.{change_text, may_hold, may_hold_all};
-ghost use Rattle.px_xlog.specs.Reading.{log_text, commits_in, rows_in};
+ghost use Rattle.px_xlog.specs.Reading.{log_text};
+ghost use Rattle.px_told.specs.Commits.{commits_in};
+ghost use Rattle.px_told.specs.Writes.{rows_in};
 
-use crate::Change;
+use px_told::Change;
 
 /// The bytes of a commit and of a row, field by field.
 pub fn texts_of_changes()

@@ -3,7 +3,7 @@
 //! Seen from above, an `Xlog` is the list of the appended changes, of which the first `durable` are synced. `IsLogOf`
 //! says so of a site, and the clauses `moments` say what a crash at any moment of a call leaves (docs/LOG.md).
 //!
-//! - `change`, `list`: what a frame says, and a list of that.
+//! - `list`: a list of what frames say.
 //! - `payload`: the bytes of a change, written and read. A later stage replaces it by cells, and nothing else here.
 //! - `place`: in which file a frame stands, and from which number on. Segments will change it alone.
 //! - `xlog`, `frame_buffer`: the log to which frames are appended, and the bytes of one frame.
@@ -15,7 +15,6 @@
 //! crash leaves; `specs/Log` the log at every moment; `specs/Errors` causes.
 #![tactic(auto)]
 
-mod change;
 mod error;
 mod frame_buffer;
 mod laws;
@@ -27,7 +26,6 @@ mod reader;
 mod window;
 mod xlog;
 
-pub use change::Change;
 pub use error::LogError;
 pub use laws::{texts_of_changes, what_a_frame_may_hold, what_a_log_stands_for};
 pub use list::ChangeList;

@@ -1,6 +1,6 @@
 ghost use Rattle.std.specs.Prelude.{◌≡◌, [], ◌∷◌, ◌++◌, OnOk, OnErr};
 
-use crate::Change;
+use px_told::Change;
 use std::alloc::{AllocError, Global};
 use std::marker::Model;
 
@@ -12,7 +12,7 @@ pub struct ChangeList {
 
 impl Model for ChangeList {
     ghost use Rattle.std.specs.Prelude.{List};
-    ghost use Rattle.px_xlog.specs.declared.change.Change.{Change};
+    ghost use Rattle.px_told.specs.declared.change.Change.{Change};
 
     ghost Value = { List Change };
 

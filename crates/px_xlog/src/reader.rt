@@ -10,9 +10,10 @@ ghost use Rattle.px_xlog.specs.Window.{Sees, longest_frame};
 use crate::payload::{may_stand, read_change};
 use crate::place::log_file;
 use crate::window::Window;
-use crate::{Change, ChangeList, LogError};
+use crate::{ChangeList, LogError};
 use px_frame::read_frame;
 use px_site::Site;
+use px_told::Change;
 use std::alloc::{AllocError, Global};
 
 /// The changes of a log, how many they are, and where its scan stops.

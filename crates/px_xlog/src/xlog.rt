@@ -2,16 +2,18 @@ ghost use Rattle.std.specs.Prelude.{◌≡◌, ℕ, ◌-◌, ◌*◌, ◌^◌, �
 ghost use Rattle.px_site.specs.Cause.{NoneFell, Rose};
 ghost use Rattle.px_site.specs.State.{EachMoment, OnFile};
 ghost use Rattle.px_xlog.specs.Errors.{HasLogCause, IsFaultOf, IsOfSite, LeavesUntouched, OnShortage};
-ghost use Rattle.px_xlog.specs.Log.{HasFirst, IsLogOf, full_at, is_end, with_frame};
+ghost use Rattle.px_xlog.specs.Log.{HasFirst, IsLogOf, full_at, with_frame};
+ghost use Rattle.px_told.specs.Changes.{is_end};
 ghost use Rattle.px_xlog.specs.Payload.{may_hold};
 ghost use Rattle.px_xlog.specs.Reading.{the_log};
 ghost use Rattle.px_xlog.specs.Window.{longest_frame};
-ghost use Rattle.px_xlog.specs.declared.change.Change.{Change};
+ghost use Rattle.px_told.specs.declared.change.Change.{Change};
 
+use crate::LogError;
 use crate::frame_buffer::FrameBuffer;
 use crate::place::{FIRST_NUMBER, MOST_FRAMES, ONLY_SEGMENT, log_file};
-use crate::{Change, LogError};
 use px_site::{Fault, Site};
+use px_told::Change;
 use std::alloc::{AllocError, Global};
 use std::marker::Model;
 

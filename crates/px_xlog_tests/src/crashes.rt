@@ -1,6 +1,7 @@
 use crate::logs::{LOG, RESTART, append_rollback};
 use px_memsite::{Keep, MemSite, Pick};
-use px_xlog::{Change, open_log};
+use px_told::Change;
+use px_xlog::open_log;
 use std::alloc::Global;
 use std::process::Abort;
 use std::test::Fail;

@@ -4,7 +4,8 @@ use px_memsite::MemSite;
 use px_model::{Bytes, Row, Write};
 use px_restart::Restart;
 use px_site::FileName;
-use px_xlog::{Change, LogError, Xlog, open_log};
+use px_told::Change;
+use px_xlog::{LogError, Xlog, open_log};
 use std::alloc::Global;
 use std::test::Fail;
 

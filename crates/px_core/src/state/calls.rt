@@ -11,7 +11,7 @@ use crate::CoreError;
 use px_calls::{Call, Reply};
 use px_model::Session;
 use px_site::Site;
-use px_xlog::Change;
+use px_told::Change;
 
 impl<W: Site> Core<W> {
     /// One call of a session, whichever it is: its reply, or why the core gives up.

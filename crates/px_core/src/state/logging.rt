@@ -1,16 +1,17 @@
 ghost use Rattle.std.specs.Prelude.{◌≡◌, ℕ, List, [], ◌∷◌, ◌++◌, Some, true, IfErr, OnOk};
 ghost use Rattle.px_site.specs.Cause.{NoneFell};
 ghost use Rattle.px_model.specs.declared.write.Write.{Write};
-ghost use Rattle.px_plain.specs.Writers.{writer_of, last_write_of};
+ghost use Rattle.px_machine_laws.specs.Writers.{writer_of, last_write_of};
 ghost use Rattle.px_xlog.specs.Payload.{may_hold};
-ghost use Rattle.px_xlog.specs.declared.change.Change.{Change};
+ghost use Rattle.px_told.specs.declared.change.Change.{Change};
 ghost use Rattle.px_core.specs.Appending.{Appends, AppendFails, Flushes, FlushFails, LeavesFronts, MayPut};
 
 use super::Core;
 use crate::CoreError;
 use px_model::Session;
 use px_site::{Site, SiteError};
-use px_xlog::{Change, LogError};
+use px_told::Change;
+use px_xlog::LogError;
 
 impl<W: Site> Core<W> {
     // Appends the frame of the write that the session made last.

@@ -1,7 +1,7 @@
 ghost use Rattle.std.specs.Prelude.{◌≡◌, ◌<◌, false, None, length, IfOk, OnOk, OnErr};
 ghost use Rattle.px_model.specs.Machine.{Machine};
 ghost use Rattle.px_calls.specs.Steps.{is_refusal, open_of, reply_of, state_after};
-ghost use Rattle.px_plain.specs.Begun.{has_number, without_begin};
+ghost use Rattle.px_plain.specs.Kept.{has_number, without_begin};
 
 use super::Plain;
 use px_calls::{Call, Reply};

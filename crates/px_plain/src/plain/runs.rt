@@ -11,7 +11,7 @@ use std::alloc::AllocError;
 
 impl Plain {
     /// One call of a session, whichever it is.
-    #[tactic(auto, using(crate::proofs::ReadingCalls::reads_change_nothing))]
+    #[tactic(auto, using(px_machine_laws::proofs::ReadingCalls::reads_change_nothing))]
     pub fn step(&mut self, session: Session, call: &Call) -> Result<Reply, AllocError>
         ensures reply { IfOk result (λ reply. reply ≡ reply_of self.old session call.now) }
         ensures state { OnOk result (self.new ≡ state_after self.old session call.now) }

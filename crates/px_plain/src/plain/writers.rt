@@ -1,7 +1,7 @@
 ghost use Rattle.std.specs.Prelude.{◌≡◌};
 ghost use Rattle.std.specs.Option.{option_copied};
-ghost use Rattle.px_plain.specs.Seen.{own_write_of, writes_made_of};
-ghost use Rattle.px_plain.specs.Writers.{last_write_of, writer_of};
+ghost use Rattle.px_machine_laws.specs.Seen.{own_write_of, writes_made_of};
+ghost use Rattle.px_machine_laws.specs.Writers.{last_write_of, writer_of};
 
 use super::Plain;
 use crate::rows::last_write;

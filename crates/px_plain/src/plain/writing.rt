@@ -2,7 +2,7 @@ ghost use Rattle.std.specs.Prelude.{◌≡◌, ◌-◌, ◌<◌, length, take, I
 ghost use Rattle.px_model.specs.declared.write.Write.{Write};
 ghost use Rattle.px_model.specs.Machine.{Machine};
 ghost use Rattle.px_calls.specs.Steps.{is_refusal, write_refusal, with_write, fits_body, is_full, reply_of, state_after};
-ghost use Rattle.px_plain.specs.Unwriting.{without_last};
+ghost use Rattle.px_machine_laws.specs.Unwriting.{without_last};
 
 use super::{Plain, fits_key};
 use px_calls::{Call, Reply};

@@ -1,6 +1,6 @@
 ghost use Rattle.std.specs.Prelude.{◌≡◌, ◌<◌, ◌≤◌, ◌↔◌, IfOk, IfSome, IsNone, IsTrue, OnOk, length, map};
 ghost use Rattle.px_cells.specs.Form.{is_short};
-ghost use Rattle.px_restart.specs.declared.restart.TheConstants.{LONGEST_SHORT};
+ghost use Rattle.px_model.specs.declared.limits.TheConstants.{LONGEST_SHORT};
 ghost use Rattle.px_cells.specs.declared.slot.Slot.{Slot};
 ghost use Rattle.px_free.specs.Places.{next_place, slots_of};
 ghost use Rattle.px_chain.specs.Cells.{cell_of};

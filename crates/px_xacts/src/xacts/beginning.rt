@@ -6,8 +6,7 @@ use super::Xacts;
 use crate::answers::Begun;
 use crate::transaction::Transaction;
 use crate::write::WriteAtList;
-use px_cells::Standing;
-use px_model::{MOST_BEGINS, SESSIONS, STORED_NUMBERS_END, Session};
+use px_model::{MOST_BEGINS, SESSIONS, STORED_NUMBERS_END, Session, Standing};
 use std::alloc::AllocError;
 
 impl Xacts {

@@ -5,8 +5,7 @@ ghost use Rattle.px_xacts.specs.Transactions.{open_of, ended, unswept, standing_
 
 use super::Xacts;
 use crate::transaction::{Outcome, Transaction, Unswept};
-use px_cells::Standing;
-use px_model::Session;
+use px_model::{Session, Standing};
 use std::collections::VecDeque;
 
 impl Xacts {

@@ -1,9 +1,9 @@
 ghost use Rattle.std.specs.Prelude.{◌≡◌, ◌≤◌, ◌<◌, ◌+◌, ℕ, Bool};
-ghost use Rattle.px_cells.specs.declared.standing.Standing.TheVariants.{Open};
+ghost use Rattle.px_model.specs.declared.standing.Standing.TheVariants.{Open};
 ghost use Rattle.px_xacts.specs.Transactions.{standing, standing_at, HasStanding, IsOpenAs, IsEndedAs};
 
 use super::Xacts;
-use px_cells::Standing;
+use px_model::Standing;
 
 impl Xacts {
     /// What became of the transaction with this stored number: `Before` exactly where it is at most `base`. It looks at one

@@ -2,15 +2,15 @@ ghost use Rattle.std.specs.Prelude.{◌≡◌, ◌≢◌, ℕ, ◌+◌, ◌<◌,
 ghost use Rattle.px_model.specs.declared.write.Write.{Write};
 ghost use Rattle.px_xlog.specs.Fields.{HoldsWrite, IsCells, IsDeletion, IsEnd, IsHead, IsLengths, IsRow, ends};
 ghost use Rattle.px_xlog.specs.Payload.{HoldsChange, head, is_place, is_stored};
-ghost use Rattle.px_xlog.specs.declared.change.Change.{Change};
+ghost use Rattle.px_told.specs.declared.change.Change.{Change};
 
 use super::{
     FIRST_NUMBER, KIND_COMMIT, KIND_PUT, KIND_ROLLBACK, LONGEST_KEY, LONGEST_KEY_AND_BODY,
     NO_WRITE, NUMBER_LIMIT, STATE_DELETION, STATE_ROW,
 };
-use crate::Change;
 use px_bytes::Fields;
 use px_model::{Bytes, Row, Write};
+use px_told::Change;
 use std::alloc::{AllocError, Global};
 
 /// The change of a payload. None exactly outside of docs/FORMATS.md, 'Change'.

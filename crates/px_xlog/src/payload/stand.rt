@@ -1,8 +1,8 @@
 ghost use Rattle.std.specs.Prelude.{◌≡◌, ◌^◌, ◌<◌};
 ghost use Rattle.px_xlog.specs.Payload.{is_within, table_of};
 
-use crate::Change;
 use px_model::Write;
+use px_told::Change;
 
 /// That a change may stand in the frame of this number, in a store with so many tables.
 pub fn may_stand(change: &Change, tables: u32, number: u64) -> bool

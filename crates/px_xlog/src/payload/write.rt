@@ -2,9 +2,9 @@ ghost use Rattle.std.specs.Prelude.{◌≡◌, true, [], ◌∷◌, ◌++◌, �
 ghost use Rattle.px_xlog.specs.Payload.{change_text, head, is_change, is_write, write_cells, write_text};
 
 use super::{END_SIZE, KIND_COMMIT, KIND_PUT, KIND_ROLLBACK, NO_WRITE, STATE_DELETION, STATE_ROW};
-use crate::Change;
 use px_bytes::{put_u8, put_u16, put_u32, put_u64};
 use px_model::Write;
+use px_told::Change;
 use std::alloc::AllocError;
 
 /// Appends the bytes of the change, as docs/FORMATS.md has them under 'Change'.

@@ -1,5 +1,4 @@
 use Rattle.px_history.specs.Told.{told_by}
-use Rattle.px_history.proofs.Adding.{past_untold}
 use Rattle.px_history.proofs.Agreeing.{history_agrees, untold_none, untold_open}
 use Rattle.px_history.proofs.Writing.{stays_open}
 use Rattle.px_history.proofs.laws.a_new_transaction_is_open.Goals as goal
@@ -11,9 +10,6 @@ returns-clause-is_open c = λ short next rows base store steps xn b h later unto
 pub returns-clause-no_versions : goal.returns-clause-no_versions
 returns-clause-no_versions c = λ short next rows base store steps xn t row b h later untold used.
     untold_none short next rows base (told_by steps) store xn t row (history_agrees short next rows base store steps b h) later untold used
-
-pub returns-clause-past_all : goal.returns-clause-past_all
-returns-clause-past_all c = past_untold
 
 pub returns-clause-stays : goal.returns-clause-stays
 returns-clause-stays c = stays_open

@@ -1,7 +1,7 @@
 use Rattle.std.proofs.Common.{refl}
 use Rattle.px_model.specs.Rows.{key_cmp, same_key}
-use Rattle.px_xlog.specs.Reading.{rows_in}
-use Rattle.px_history.specs.Base.{rows_over}
+use Rattle.px_told.specs.Writes.{rows_in}
+use Rattle.px_told.specs.Writes.{rows_over}
 use Rattle.px_history.proofs.Small.{second_is_one, small_is_base, small_is_one}
 use Rattle.px_history.proofs.laws.a_small_history.Goals as goal
 

@@ -1,4 +1,4 @@
-use Rattle.px_logged.proofs.Fronts.{counts_more}
+use Rattle.px_logged.proofs.Numbered.{counts_more}
 use Rattle.px_logged.proofs.Recounted.{call_recounts, calls_recount}
 use Rattle.px_logged.proofs.laws.calls_add_what_they_did.Goals as goal
 

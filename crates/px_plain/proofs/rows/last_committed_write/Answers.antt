@@ -1,6 +1,6 @@
 use Rattle.std.proofs.Common.{Some, None, ap, sym, ◌∙◌}
 use Rattle.std.specs.Option.{option_copied}
-use Rattle.px_plain.proofs.Seen.{committed_back, uncommitted_back}
+use Rattle.px_machine_laws.proofs.Seen.{committed_back, uncommitted_back}
 use Rattle.px_plain.proofs.rows.last_committed_write.Goals as goal
 
 pub returns-in-Some : goal.returns-in-Some

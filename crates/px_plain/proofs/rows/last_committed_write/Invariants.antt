@@ -1,5 +1,5 @@
 use Rattle.std.proofs.Common.{◌≡◌, take}
-use Rattle.px_plain.specs.Seen.{last_committed_of}
+use Rattle.px_machine_laws.specs.Seen.{last_committed_of}
 use Rattle.px_plain.proofs.rows.last_committed_write.Given as goal
 
 abbrev pub invariant-loop-i : goal.invariant-loop-i

@@ -1,5 +1,5 @@
 use Rattle.std.proofs.Common.{sym, ◌∙◌}
-use Rattle.px_plain.proofs.Seen.{found_back, passed_back}
+use Rattle.px_machine_laws.proofs.Seen.{found_back, passed_back}
 use Rattle.px_plain.proofs.rows.last_write.Goals as goal
 
 pub returns-then-is_of : goal.returns-then-is_of

@@ -1,6 +1,6 @@
 use Rattle.std.proofs.Common.{◌≡◌, drop}
 use Rattle.px_model.specs.Rows.{after}
-use Rattle.px_xlog.specs.Reading.{writes_of}
+use Rattle.px_told.specs.Writes.{writes_of}
 use Rattle.px_recovery.proofs.changes.apply_writes_of.Given as goal
 
 abbrev pub invariant-loop-change : goal.invariant-loop-change

@@ -1,5 +1,5 @@
 use Rattle.std.proofs.Common.{◌≡◌, ◌-◌, drop}
-use Rattle.px_xlog.specs.Reading.{greatest_stored}
+use Rattle.px_told.specs.Changes.{greatest_stored}
 use Rattle.px_recovery.proofs.changes.base_of.Given as goal
 
 abbrev pub invariant-loop-change : goal.invariant-loop-change

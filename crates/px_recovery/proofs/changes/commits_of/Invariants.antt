@@ -1,5 +1,5 @@
 use Rattle.std.proofs.Common.{◌≡◌, drop}
-use Rattle.px_xlog.specs.Reading.{last_commit}
+use Rattle.px_told.specs.Commits.{last_commit}
 use Rattle.px_recovery.proofs.changes.commits_of.Given as goal
 
 abbrev pub invariant-loop-change : goal.invariant-loop-change

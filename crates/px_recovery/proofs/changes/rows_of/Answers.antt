@@ -1,6 +1,6 @@
 use Rattle.std.proofs.Common.{◌≡◌, ℕ, nat_eq, List, get_or, subst}
 use Rattle.std.specs.HashMap.{get}
-use Rattle.px_xlog.specs.declared.change.Change.{Change}
+use Rattle.px_told.specs.declared.change.Change.{Change}
 use Rattle.px_recovery.proofs.Committing.{put_walks, commit_walks, rollback_walks}
 use Rattle.px_recovery.proofs.changes.rows_of.Goals as goal
 use Rattle.px_recovery.proofs.changes.rows_of.Goals.{in-Put+in_ok-note_beginning-in-Put, in-Commit+in_ok-apply_writes_of-in-Commit, in-Rollback}

@@ -1,5 +1,5 @@
 use Rattle.px_recs.specs.Text.{header_text}
-use Rattle.px_restart.proofs.Restarts.{u32_then}
+use Rattle.px_bytes.proofs.Numbers.{u32_then}
 use Rattle.px_recs.proofs.header.take_header.Goals as goal
 
 pub returns-clause-taken : goal.returns-clause-taken

@@ -1,6 +1,6 @@
 use Rattle.std.proofs.Common.{◌≡◌, ◌++◌, ℕ, List, replicate, ap, ◌∙◌}
 use Rattle.std.proofs.lemmas.List.{take-replicate}
-use Rattle.px_restart.specs.declared.restart.TheConstants.{LONGEST_SHORT}
+use Rattle.px_model.specs.declared.limits.TheConstants.{LONGEST_SHORT}
 use Rattle.px_recs.proofs.padding.append_zeros.Goals as goal
 
 pub returns-clause-ok : goal.returns-clause-ok

@@ -1,5 +1,5 @@
 use Rattle.px_recs.specs.Fields.{numbers_text}
-use Rattle.px_restart.proofs.Restarts.{u32_then, u64_then}
+use Rattle.px_bytes.proofs.Numbers.{u32_then, u64_then}
 use Rattle.px_recs.proofs.raw.take_numbers.Goals as goal
 
 pub returns-clause-taken : goal.returns-clause-taken

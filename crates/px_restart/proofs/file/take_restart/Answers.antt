@@ -1,5 +1,5 @@
 use Rattle.px_restart.specs.Restart.{fields_text}
-use Rattle.px_restart.proofs.Restarts.{u32_then, u64_then}
+use Rattle.px_bytes.proofs.Numbers.{u32_then, u64_then}
 use Rattle.px_restart.proofs.file.take_restart.Goals as goal
 
 pub returns-clause-taken : goal.returns-clause-taken

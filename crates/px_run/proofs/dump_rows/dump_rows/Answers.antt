@@ -2,7 +2,8 @@ use Rattle.std.proofs.Common.{sym, subst}
 use Rattle.px_site.specs.State.{EachMoment}
 use Rattle.px_logged.specs.Recounting.{rows_now}
 use Rattle.px_xlog.specs.Images.{ImagesStandFor}
-use Rattle.px_xlog.specs.Reading.{commits_in, rows_in}
+use Rattle.px_told.specs.Commits.{commits_in}
+use Rattle.px_told.specs.Writes.{rows_in}
 use Rattle.px_run.specs.Working.{DumpsRows}
 use Rattle.px_run.proofs.Dumped.{dumped, dumping_moments, opening_moments, undumped}
 use Rattle.px_run.proofs.Opening.{opened_rows, opened_whole, opens_this, settles}

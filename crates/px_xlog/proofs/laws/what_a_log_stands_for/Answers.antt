@@ -4,7 +4,9 @@ use Rattle.px_frame.specs.Frame.{frame, payload_at, named_payload}
 use Rattle.px_scan.specs.Scan.{frames, frames_of, frames_within}
 use Rattle.px_model.specs.Rows.{key_cmp, same_key}
 use Rattle.px_xlog.specs.Payload.{head, write_cells, write_text, change_text, is_write, is_change, may_hold}
-use Rattle.px_xlog.specs.Reading.{commits_in, rows_in, log_text}
+use Rattle.px_xlog.specs.Reading.{log_text}
+use Rattle.px_told.specs.Commits.{commits_in}
+use Rattle.px_told.specs.Writes.{rows_in}
 use Rattle.px_xlog.proofs.laws.what_a_log_stands_for.Goals as goal
 
 pub returns : goal.returns

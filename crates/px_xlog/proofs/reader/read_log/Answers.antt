@@ -3,7 +3,7 @@ use Rattle.std.proofs.lemmas.Result.{err_from_is_err_and}
 use Rattle.px_site.specs.State.{State}
 use Rattle.px_site.proofs.Causes.{then_none_fell, no_fall}
 use Rattle.px_frame.specs.Frame.{payload_at}
-use Rattle.px_xlog.specs.declared.change.Change.{Change}
+use Rattle.px_told.specs.declared.change.Change.{Change}
 use Rattle.px_xlog.specs.Payload.{may_hold_all}
 use Rattle.px_xlog.specs.Reading.{the_log}
 use Rattle.px_xlog.specs.Scanning.{FindsForeign, IsNext}

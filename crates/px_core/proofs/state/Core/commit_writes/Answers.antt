@@ -1,9 +1,9 @@
 use Rattle.std.proofs.Common.{◌≡◌, ◌+◌, true, [], ◌∷◌, None, sym, ap, subst, ◌∙◌, inl, refl, arith}
 use Rattle.px_model.specs.Machine.{Machine}
 use Rattle.px_calls.specs.declared.call.Call.TheVariants.{Commit}
-use Rattle.px_plain.specs.Writers.{writer_of}
-use Rattle.px_xlog.specs.declared.change.Change.{Change}
-use Rattle.px_xlog.specs.declared.change.Change.TheVariants.{Commit as CommitChange}
+use Rattle.px_machine_laws.specs.Writers.{writer_of}
+use Rattle.px_told.specs.declared.change.Change.{Change}
+use Rattle.px_told.specs.declared.change.Change.TheVariants.{Commit as CommitChange}
 use Rattle.px_xlog.specs.Payload.{may_hold}
 use Rattle.px_logged.specs.Logged.{logged}
 use Rattle.px_core.specs.Core.{Kept}

@@ -2,9 +2,9 @@ use Rattle.std.proofs.Common.{◌≡◌, ◌^◌, ◌≤◌, true, [], ◌∷◌
 use Rattle.px_model.specs.Machine.{Machine}
 use Rattle.px_calls.specs.declared.call.Call.TheVariants.{Rollback}
 use Rattle.px_calls.specs.Steps.{reply_of, state_after}
-use Rattle.px_plain.specs.Writers.{writer_of}
-use Rattle.px_xlog.specs.declared.change.Change.{Change}
-use Rattle.px_xlog.specs.declared.change.Change.TheVariants.{Rollback as RollbackChange}
+use Rattle.px_machine_laws.specs.Writers.{writer_of}
+use Rattle.px_told.specs.declared.change.Change.{Change}
+use Rattle.px_told.specs.declared.change.Change.TheVariants.{Rollback as RollbackChange}
 use Rattle.px_xlog.specs.Log.{Log, with_frame}
 use Rattle.px_xlog.specs.Payload.{may_hold}
 use Rattle.px_logged.specs.Logged.{logged}

@@ -1,8 +1,8 @@
 use Rattle.std.proofs.Common.{◌≡◌, ◌+◌, ◌^◌, ◌≤◌, [], ◌∷◌, refl, sym, ap, subst, ◌∙◌, inr}
 use Rattle.px_model.specs.Machine.{Machine}
 use Rattle.px_calls.specs.Steps.{is_refusal, reply_of, state_after}
-use Rattle.px_xlog.specs.declared.change.Change.{Change}
-use Rattle.px_xlog.specs.declared.change.Change.TheVariants.{Put}
+use Rattle.px_told.specs.declared.change.Change.{Change}
+use Rattle.px_told.specs.declared.change.Change.TheVariants.{Put}
 use Rattle.px_logged.specs.Fitting.{Fits}
 use Rattle.px_logged.specs.Logged.{logged}
 use Rattle.px_logged.proofs.Adding.{refused_adds_nothing}

@@ -1,6 +1,6 @@
 use Rattle.std.proofs.Common.{refl, sym, subst, arith}
 use Rattle.std.specs.Vec.{vec_capacity}
-use Rattle.px_plain.specs.Begun.{AreKept}
+use Rattle.px_plain.specs.Kept.{AreKept}
 use Rattle.px_plain.specs.declared.plain.Plain.TheInside.{Inside}
 use Rattle.px_plain.proofs.Kept.{kept-changed, kept-same}
 use Rattle.px_plain.proofs.plain.Plain.drop_last_write.Goals as goal

@@ -1,7 +1,7 @@
 use Rattle.std.proofs.Common.{length, refl, sym, ap, subst, ◌∙◌, arith}
 use Rattle.std.proofs.lemmas.List.{set-get_or}
 use Rattle.std.specs.Vec.{vec_capacity}
-use Rattle.px_plain.specs.Begun.{AreKept}
+use Rattle.px_plain.specs.Kept.{AreKept}
 use Rattle.px_plain.specs.declared.plain.Plain.TheInside.{Inside}
 use Rattle.px_plain.proofs.Kept.{kept-changed, kept-same}
 use Rattle.px_plain.proofs.plain.Plain.keep.Goals as goal

@@ -1,4 +1,4 @@
-use Rattle.px_plain.proofs.Unwriting.{was_taken_back}
+use Rattle.px_machine_laws.proofs.Unwriting.{was_taken_back}
 use Rattle.px_plain.proofs.plain.Plain.unwrite.Goals as goal
 
 pub returns : goal.returns

@@ -3,7 +3,8 @@ use Rattle.std.proofs.lemmas.List.{length-append}
 use Rattle.px_restart.specs.declared.restart.TheConstants.{RESTART_SIZE}
 use Rattle.px_restart.specs.Restart.{fields_text}
 use Rattle.px_restart.specs.File.{file_text}
-use Rattle.px_restart.proofs.Restarts.{length-fields, u32_then, fields_then}
+use Rattle.px_restart.proofs.Restarts.{length-fields, fields_then}
+use Rattle.px_bytes.proofs.Numbers.{u32_then}
 use Rattle.px_restart.proofs.Reading.{whole-file, file_long}
 use Rattle.px_restart.proofs.file.File.read.Goals as goal
 

@@ -1,6 +1,6 @@
 use Rattle.std.proofs.Common.{◌≡◌, take}
 use Rattle.px_model.specs.Rows.{Key}
-use Rattle.px_plain.specs.Seen.{last_of_key}
+use Rattle.px_machine_laws.specs.Seen.{last_of_key}
 use Rattle.px_sessions.specs.Newest.{entry_of, after_commit}
 use Rattle.px_sessions.proofs.newest.Newest.commit.Given as goal
 

@@ -1,6 +1,6 @@
 use Rattle.std.proofs.Common.{sym, ap, ◌∙◌}
 use Rattle.std.specs.Option.{option_copied}
-use Rattle.px_plain.specs.Seen.{last_of_key}
+use Rattle.px_machine_laws.specs.Seen.{last_of_key}
 use Rattle.px_sessions.specs.Newest.{entry_of, live_in}
 use Rattle.px_sessions.proofs.Commits.{has_now}
 use Rattle.px_sessions.proofs.Indexed.{moved, row-is}

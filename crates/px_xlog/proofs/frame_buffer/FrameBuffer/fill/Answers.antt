@@ -1,6 +1,6 @@
 use Rattle.std.proofs.Common.{ap, sym, ◌∙◌}
 use Rattle.px_frame.specs.Frame.{frame}
-use Rattle.px_xlog.specs.declared.change.Change.{Change}
+use Rattle.px_told.specs.declared.change.Change.{Change}
 use Rattle.px_xlog.specs.Payload.{change_text}
 use Rattle.px_xlog.proofs.frame_buffer.FrameBuffer.fill.Goals as goal
 

@@ -1,16 +1,11 @@
--- The transactions that are open were begun: their numbers were given out, each once.
-use Rattle.std.specs.Prelude.{◌≡◌, ◌<◌, ◌≤◌, ℕ, ◌+◌, ◌-◌, ◌^◌, Bool, false, ◌==◌, List, Option, Some, None, if◌then◌else◌, count_by, is_some, length, slice_index_or, slice_set}
+-- What a plain program keeps of its parts, and a begin that is taken back.
+use Rattle.std.specs.Prelude.{◌≡◌, ◌<◌, ◌≤◌, ℕ, ◌+◌, ◌-◌, ◌^◌, Bool, false, ◌==◌, List, Option, Some, None, if◌then◌else◌, count_by, is_some, length, slice_set}
 use Rattle.px_model.specs.declared.limits.TheConstants.{SESSIONS}
 use Rattle.px_model.specs.declared.machine.Ended.{Ended}
 use Rattle.px_model.specs.declared.machine.Open.{Open}
 use Rattle.px_model.specs.Machine.{Machine}
 use Rattle.px_calls.specs.Steps.{open_of}
-
-pub record WereBegun (begun : ℕ) (active : List (Option Open)) : Type 0 where
-  pub from_one : (session : ℕ) (xact : Open) → slice_index_or active session None ≡ Some xact → 0 < xact.number
-  pub given : (session : ℕ) (xact : Open) → slice_index_or active session None ≡ Some xact → xact.number ≤ begun
-  pub apart : (one other : ℕ) (x y : Open) → slice_index_or active one None ≡ Some x → slice_index_or active other None ≡ Some y
-      → x.number ≡ y.number → one ≡ other
+use Rattle.px_machine_laws.specs.Begun.{WereBegun}
 
 -- What holds of a plain program's parts: there is a place for each session, the stored numbers are below 2^62, there is
 -- room among the ended transactions for each open one, and the committed ones are counted.

@@ -6,7 +6,7 @@ use Rattle.px_model.specs.declared.machine.Open.{Open}
 use Rattle.px_model.specs.declared.write.Write.{Write}
 use Rattle.px_model.specs.Machine.{Machine}
 use Rattle.px_calls.specs.Steps.{open_of, plus_write, with_write}
-use Rattle.px_plain.specs.Unwriting.{minus_last, without_last}
+use Rattle.px_machine_laws.specs.Unwriting.{minus_last, without_last}
 
 last_dropped : (writes : List Write) (write : Write) → take (length (writes ++ write ∷ []) - 1) (writes ++ write ∷ []) ≡ writes
 last_dropped writes write =

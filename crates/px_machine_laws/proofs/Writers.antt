@@ -8,7 +8,7 @@ use Rattle.px_model.specs.declared.machine.Open.{Open}
 use Rattle.px_model.specs.declared.write.Write.{Write}
 use Rattle.px_model.specs.Machine.{Machine}
 use Rattle.px_calls.specs.Steps.{open_of, plus_write, with_write}
-use Rattle.px_plain.specs.Writers.{number_with_writes, last_of, writer_of, last_write_of}
+use Rattle.px_machine_laws.specs.Writers.{number_with_writes, last_of, writer_of, last_write_of}
 
 open_after : (m : Machine) (session : ℕ) (write : Write) (x : Open) → open_of m session ≡ Some x → open_of (with_write m session write) session ≡ Some (plus_write write x)
 open_after m session write x is = elim (cases_lt session (length m.active)) [

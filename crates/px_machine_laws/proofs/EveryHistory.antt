@@ -17,7 +17,7 @@ use Rattle.px_model.specs.Machine.{Machine, fresh, no_session, view}
 use Rattle.px_calls.specs.Steps.{write_refusal, is_refusal, if_open, unless_refused, open_of, open_writer, conflict_of, plus_write, plus_kept, entries_of, reply_of, state_after, state_when_done}
 use Rattle.px_calls.specs.Sweeps.{swept_state}
 use Rattle.px_calls.specs.Histories.{Step, by, sweep, step_state, machine_after, FirstCommitterWins}
-use Rattle.px_plain.proofs.Overlap.{Sound, change_slot, close, write_once, option_or_none}
+use Rattle.px_machine_laws.proofs.Overlap.{Sound, change_slot, close, write_once, option_or_none}
 
 abbrev SoundState : Machine → Type 0
 SoundState m = Sound m.ended m.active

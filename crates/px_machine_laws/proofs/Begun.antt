@@ -4,8 +4,8 @@ use Rattle.std.proofs.lemmas.Bool.{cases_lt}
 use Rattle.std.proofs.lemmas.Option.{none-some, same_Some}
 use Rattle.std.proofs.lemmas.List.{get_or-replicate, get_or_past, length-replicate}
 use Rattle.px_model.specs.declared.machine.Open.{Open}
-use Rattle.px_plain.specs.Begun.{WereBegun}
-use Rattle.px_plain.proofs.Overlap.{slot_cases}
+use Rattle.px_machine_laws.specs.Begun.{WereBegun}
+use Rattle.px_machine_laws.proofs.Overlap.{slot_cases}
 
 nobody : (count session : ℕ) (xact : Open) → get_or (replicate count None) session None ≡ Some xact → ⊥
 nobody count session xact at = elim (cases_lt session count) [

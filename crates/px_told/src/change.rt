@@ -1,9 +1,9 @@
 ghost use Rattle.std.specs.Prelude.{◌≡◌};
-ghost use Rattle.px_xlog.specs.Log.{is_end};
+ghost use Rattle.px_told.specs.Changes.{is_end};
 
 use px_model::Write;
 
-/// What a frame of the log says: a write of a transaction, or how one ended. The numbers of transactions are
+/// What a call tells that changes something: a write of a transaction, or how one ended. The numbers of transactions are
 /// stored ones, from 1 to 2^62 - 1.
 #[derive(Debug, Drop)]
 pub enum Change {

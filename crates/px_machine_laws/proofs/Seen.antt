@@ -11,7 +11,7 @@ use Rattle.px_model.specs.Rows.{Key, same_key, key_written, row_at, after}
 use Rattle.px_model.specs.Machine.{Machine, view, committed_writes}
 use Rattle.px_model_laws.specs.Keys.{row_written}
 use Rattle.px_model_laws.proofs.RowsAsMap.{newest, row_at-after}
-use Rattle.px_plain.specs.Seen.{last_of_key, last_committed_of, row_left}
+use Rattle.px_machine_laws.specs.Seen.{last_of_key, last_committed_of, row_left}
 
 or_none : (o : Option Write) → option_or o None ≡ o
 or_none None = refl

@@ -1,0 +1,9 @@
+pub mod Begun
+pub mod EveryHistory
+pub mod Limits
+pub mod Overlap
+pub mod ReadingCalls
+pub mod Seen
+pub mod Sweeping
+pub mod Unwriting
+pub mod Writers

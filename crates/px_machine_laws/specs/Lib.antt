@@ -1,0 +1,4 @@
+pub mod Begun
+pub mod Seen
+pub mod Unwriting
+pub mod Writers
