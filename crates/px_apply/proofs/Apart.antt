@@ -17,7 +17,8 @@ use Rattle.px_recs.specs.Place.{place_of, size_of}
 use Rattle.px_change.specs.declared.change.Change.{Change}
 use Rattle.px_change.specs.Text.{cell_code}
 use Rattle.px_change.specs.Grammar.{is_number, is_size, is_table, is_cell, is_before, rise_behind, rise, has_cells, has_commit, is_stored, is_change}
-use Rattle.px_apply.specs.Writes.{table_file, file_of, write_of}
+use Rattle.px_recs.specs.Place.{table_file}
+use Rattle.px_apply.specs.Writes.{file_of, write_of}
 use Rattle.px_apply.specs.Contents.{Contents, with_cell, with_cells, is_in, is_file_of, is_byte_of, is_byte_of_some, end_of, HasCell}
 use Rattle.px_apply.proofs.Bytes.{cell_inside}
 use Rattle.px_apply.proofs.Laid.{elsewhere, size, reach_here}

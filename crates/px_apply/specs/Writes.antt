@@ -1,20 +1,13 @@
 -- The writes of cells, and what they make of a site.
 use Rattle.std.specs.Prelude.{◌≡◌, ℕ, List, ◌∷◌, ◌++◌, fold, Result}
 use Rattle.px_site.specs.declared.name.FileName.{FileName}
-use Rattle.px_site.specs.declared.name.FileName.TheVariants.{Rec, Row}
 use Rattle.px_site.specs.declared.error.SiteError.{SiteError}
 use Rattle.px_site.specs.Disk.{Change as DiskChange, Wrote}
 use Rattle.px_site.specs.State.{State, Changes, changed}
 use Rattle.px_cells.specs.declared.cell.Cell.{Cell}
 use Rattle.px_cells.specs.declared.cell.CellKind.{CellKind}
 use Rattle.px_cells.specs.declared.cell.CellKind.TheVariants.{Header, Slot, Pointer}
-use Rattle.px_recs.specs.Place.{place_of}
-
--- the file in which a table has its cells of that kind
-abbrev pub table_file : CellKind → (table : ℕ) → FileName
-table_file Header table = Rec table
-table_file Slot table = Rec table
-table_file Pointer table = Row table
+use Rattle.px_recs.specs.Place.{place_of, table_file}
 
 abbrev pub file_of : Cell → FileName
 file_of cell = table_file cell.what cell.table

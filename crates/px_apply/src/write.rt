@@ -5,12 +5,12 @@ ghost use Rattle.px_site.specs.State.{Changes, EachMoment};
 ghost use Rattle.px_cells.specs.Form.{is_short};
 ghost use Rattle.px_change.specs.Grammar.{is_cell, is_change};
 ghost use Rattle.px_apply.specs.Moments.{IsWithin};
-ghost use Rattle.px_apply.specs.Writes.{StopsAt, cells_written, file_of, table_file, write_of};
+ghost use Rattle.px_apply.specs.Writes.{StopsAt, cells_written, file_of, write_of};
 
-use px_cells::{Cell, CellKind};
+use px_cells::Cell;
 use px_change::Change;
-use px_recs::cell_place;
-use px_site::{Fault, FileName, Site, SiteError};
+use px_recs::{cell_place, table_file};
+use px_site::{Fault, Site, SiteError};
 
 /// Writes the cells of a change to the files of their table, in their order: at most four writes. `short` is the store's
 /// short length, 16 to 1,024, and the change is one that such a store may have.
@@ -55,14 +55,4 @@ fn write_cell<W: Site>(site: &mut W, cell: &Cell, short: u32) -> Result<(), Site
     let file = table_file(cell.what, cell.table);
     let place = cell_place(cell.what, cell.number, short);
     site.write_at(file, place, cell.bytes.as_slice())
-}
-
-/// The file in which a table has its cells of that kind.
-fn table_file(what: CellKind, table: u8) -> FileName
-    ensures { result ≡ table_file what table }
-{
-    match what {
-        CellKind::Header | CellKind::Slot => FileName::Rec(table),
-        CellKind::Pointer => FileName::Row(table),
-    }
 }

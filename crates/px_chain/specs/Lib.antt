@@ -4,3 +4,4 @@ pub mod Sound
 pub mod Table
 pub mod Unlinked
 pub mod Visible
+pub mod Unused

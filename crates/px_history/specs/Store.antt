@@ -5,6 +5,7 @@ use Rattle.px_cells.specs.declared.slot.Slot.{Slot}
 use Rattle.px_cells.specs.declared.slot.SlotState.TheVariants.{Free, Row}
 use Rattle.px_chain.specs.Sound.{IsUsedRow, no_layout, no_places}
 use Rattle.px_chain.specs.Table.{Table}
+use Rattle.px_chain.specs.Unused.{unused_table}
 use Rattle.px_shown.specs.Shown.{Done}
 use Rattle.px_shown.specs.Tables.{Tables, Layouts, slots_of_row}
 
@@ -19,16 +20,6 @@ pub record Store : Type 0 where
 pub record IsOpen (store : Store) (xn : ℕ) : Type 0 where
   pub undone : store.done xn ≡ false
   pub not_over : store.over xn ≡ false
-
-abbrev pub unused_slot : Slot
-unused_slot = record { state = Free; xn = 0; next = 0; row = 0; tag = 0; total = 0; log = 0; place = 0; key = []; short = [] }
-
-abbrev pub unused_pointer : Pointer
-unused_pointer = record { used = false; head = 0 }
-
--- a table of which no place was ever used
-abbrev pub unused_table : Table
-unused_table = record { header = no_places; slot = λ n. unused_slot; pointer = λ n. unused_pointer }
 
 -- the store of a log without changes
 abbrev pub nothing : Store

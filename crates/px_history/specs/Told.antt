@@ -6,10 +6,9 @@ use Rattle.px_shown.specs.Tables.{AreSound}
 use Rattle.px_shown.specs.Writes.{AreWritesOf}
 use Rattle.px_told.specs.declared.change.Change.{Change}
 use Rattle.px_told.specs.declared.change.Change.TheVariants.{Put, Commit, Rollback}
-use Rattle.px_told.specs.Commits.{last_commit}
-use Rattle.px_told.specs.Changes.{stored_number}
-use Rattle.px_told.specs.Writes.{writes_of}
-use Rattle.px_told.specs.Writes.{rows_over}
+use Rattle.px_told.specs.Changes.{IsUntold}
+use Rattle.px_told.specs.Commits.{HasCommitOf, last_commit}
+use Rattle.px_told.specs.Writes.{rows_over, writes_of}
 use Rattle.px_history.specs.Store.{Store, IsOpen}
 use Rattle.px_history.specs.Steps.{Step}
 

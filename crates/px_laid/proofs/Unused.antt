@@ -6,7 +6,7 @@ use Rattle.px_cells.specs.declared.limits.TheConstants.{HEADER_SIZE, SLOT_HEAD_S
 use Rattle.px_cells.specs.Form.{is_slot}
 use Rattle.px_recs.specs.Text.{HeaderAt, PointerAt, SlotAt, header_text, padded, pointer_text, slot_text}
 use Rattle.px_chain.specs.Sound.{no_places}
-use Rattle.px_laid.specs.Reading.{free_pointer, unused_slot}
+use Rattle.px_cells.specs.Unused.{free_pointer, unused_slot}
 
 pub unused_header : HeaderAt (replicate HEADER_SIZE 0) no_places
 unfolding header_text

@@ -17,11 +17,3 @@ pointer_bytes places table number = unwrap_or (places kind.Pointer table number)
 -- in a store with that short length
 abbrev pub slot_bytes : (short : ℕ) → Places → (table number : ℕ) → List ℕ
 slot_bytes short places table number = unwrap_or (places kind.Slot table number) (replicate (size_of short kind.Slot) 0)
-
--- ---- what was never used
-
-abbrev pub free_pointer : Pointer
-free_pointer = record { used = false; head = 0 }
-
-abbrev pub unused_slot : Slot
-unused_slot = record { state = Free; xn = 0; next = 0; row = 0; tag = 0; total = 0; log = 0; place = 0; key = []; short = [] }

@@ -6,9 +6,10 @@ use Rattle.px_cells.specs.declared.header.Header.{Header}
 use Rattle.px_recs.specs.Text.{HeaderAt, HeaderFits, PointerAt, SlotAt, SlotFits}
 use Rattle.px_chain.specs.Sound.{no_places}
 use Rattle.px_chain.specs.Table.{Content, Table}
+use Rattle.px_cells.specs.Unused.{free_pointer, unused_slot}
 use Rattle.px_laid.specs.declared.table.TableCells.{TableCells}
 use Rattle.px_laid.specs.Places.{Places}
-use Rattle.px_laid.specs.Reading.{free_pointer, header_bytes, pointer_bytes, slot_bytes, unused_slot}
+use Rattle.px_laid.specs.Reading.{header_bytes, pointer_bytes, slot_bytes}
 use Rattle.px_laid.specs.Whole.{AreAll}
 
 -- In a store with that short length, the bytes at each place of the table with that number are the text of this table's cell,
@@ -19,8 +20,6 @@ pub record Says (short number : ℕ) (table : Table) (places : Places) : Type 0 
   pub pointer : (n : ℕ) → PointerAt (pointer_bytes places number n) (table.pointer n)
 
 -- a table of which no place was ever used
-abbrev pub unused_table : Table
-unused_table = record { header = no_places; slot = λ n. unused_slot; pointer = λ n. free_pointer }
 
 -- the content is read again where it was written
 abbrev pub ContentFits : (short : ℕ) → Content → Type 0

@@ -3,8 +3,9 @@ ghost use Rattle.px_cells.specs.declared.header.Header.{Header};
 ghost use Rattle.px_cells.specs.declared.pointer.Pointer.{Pointer};
 ghost use Rattle.px_cells.specs.declared.slot.Slot.{Slot};
 ghost use Rattle.px_recs.specs.Text.{HeaderAt, PointerAt, SlotAt};
+ghost use Rattle.px_cells.specs.Unused.{unused_slot};
 ghost use Rattle.px_laid.specs.Places.{places};
-ghost use Rattle.px_laid.specs.Reading.{header_bytes, pointer_bytes, slot_bytes, unused_slot};
+ghost use Rattle.px_laid.specs.Reading.{header_bytes, pointer_bytes, slot_bytes};
 
 use crate::Laid;
 use px_cells::{CellKind, Header, Pointer, Slot, SlotState};

@@ -20,7 +20,7 @@ use Rattle.px_history.specs.Store.{Store, nothing}
 use Rattle.px_history.specs.Written.{change_of, changes_of}
 use Rattle.px_laid.specs.Holds.{Holds}
 use Rattle.px_laid.specs.Places.{Places, laid_over, none_laid}
-use Rattle.px_laid.specs.Says.{unused_table}
+use Rattle.px_chain.specs.Unused.{unused_table}
 use Rattle.px_laid.proofs.Counts as counts
 use Rattle.px_laid.proofs.Holds as holds
 use Rattle.px_laid.proofs.Says.{laid_holds}

@@ -17,7 +17,8 @@ use Rattle.px_site.specs.declared.name.FileName.{FileName}
 use Rattle.px_survey.specs.Cells.{table_of}
 use Rattle.px_survey.specs.Flaws.{IsBefore, IsFirstFlaw}
 use Rattle.px_survey.specs.declared.flaw.Flaw.{Flaw}
-use Rattle.px_opened.specs.Damage.{IsDamage, IsDamageOf, IsDamagedAt, IsFlawedAt, flawed_kind, flawed_number, table_file}
+use Rattle.px_opened.specs.Damage.{IsDamage, IsDamageOf, IsDamagedAt, IsFlawedAt, flawed_kind, flawed_number}
+use Rattle.px_recs.specs.Place.{table_file}
 use Rattle.px_opened.proofs.Harm.{never_bad, never_damaged}
 use Rattle.px_opened.proofs.Numbers.{one_list, some_value}
 use Rattle.px_opened.proofs.One.{one_pointer, one_slot}

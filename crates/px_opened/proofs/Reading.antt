@@ -13,12 +13,14 @@ use Rattle.px_laid.specs.Whole.{AllFrom, AreCellsOf, IsLaidPointer, IsLaidSlot}
 use Rattle.px_laid.specs.declared.table.TableCells.{TableCells}
 use Rattle.px_recs.specs.Place.{place_of}
 use Rattle.px_recs.specs.Text.{SlotAt}
-use Rattle.px_survey.specs.Cells.{table_of, no_pointer, no_slot}
+use Rattle.px_cells.specs.Unused.{free_pointer, unused_slot}
+use Rattle.px_survey.specs.Cells.{table_of}
 use Rattle.px_survey.specs.Flaws.{IsFirstFlaw}
 use Rattle.px_survey.specs.declared.flaw.Flaw.{Flaw}
-use Rattle.px_tables.specs.Held.{Cells, HasLayout, cells_from, free_pointer, unused_slot}
+use Rattle.px_tables.specs.Held.{Cells, HasLayout, cells_from}
 use Rattle.px_tables.specs.Held as held
-use Rattle.px_opened.specs.Damage.{IsErrorOf, flawed_kind, flawed_number, table_file}
+use Rattle.px_opened.specs.Damage.{IsErrorOf, flawed_kind, flawed_number}
+use Rattle.px_recs.specs.Place.{table_file}
 use Rattle.px_opened.specs.Opened.{IsOpened, IsReadOf}
 use Rattle.px_opened.specs.declared.error.OpenedError.{OpenedError}
 use Rattle.px_opened.specs.declared.error.OpenedError.TheVariants.{Damaged}
@@ -29,8 +31,8 @@ pub table_read : (short number : ℕ) (places : Places) (cells : TableCells) →
     → IsReadOf short places number (table_of cells.header cells.pointers.items cells.slots.items)
 table_read short number places cells are = record {
   header = are.header;
-  pointers = λ n place. before (IsLaidPointer places number) cells.header.rows cells.pointers.items n no_pointer are.pointers place.0 place.1;
-  slots = λ n place. before (IsLaidSlot short places number) cells.header.slots cells.slots.items n no_slot are.slots place.0 place.1;
+  pointers = λ n place. before (IsLaidPointer places number) cells.header.rows cells.pointers.items n free_pointer are.pointers place.0 place.1;
+  slots = λ n place. before (IsLaidSlot short places number) cells.header.slots cells.slots.items n unused_slot are.slots place.0 place.1;
 }
 
 -- and those cells in memory

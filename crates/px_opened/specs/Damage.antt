@@ -7,21 +7,14 @@ use Rattle.px_chain.specs.Table.{Table}
 use Rattle.px_laid.specs.Places.{Places}
 use Rattle.px_laid.specs.Whole.{AreCellsOf, IsFirstBad}
 use Rattle.px_laid.specs.declared.table.TableCells.{TableCells}
-use Rattle.px_recs.specs.Place.{place_of}
+use Rattle.px_recs.specs.Place.{place_of, table_file}
 use Rattle.px_site.specs.declared.name.FileName.{FileName}
-use Rattle.px_site.specs.declared.name.FileName.TheVariants.{Rec, Row}
 use Rattle.px_survey.specs.Cells.{table_of}
 use Rattle.px_survey.specs.Flaws.{IsFirstFlaw}
 use Rattle.px_survey.specs.declared.flaw.Flaw.{Flaw}
 use Rattle.px_opened.specs.Opened.{IsTable, OpensTo}
 use Rattle.px_opened.specs.declared.error.OpenedError.{OpenedError}
 use Rattle.px_opened.specs.declared.error.OpenedError.TheVariants.{OutOfMemory, Damaged}
-
--- the file in which a table has its cells of that kind
-abbrev pub table_file : CellKind → (table : ℕ) → FileName
-table_file kind.Header table = Rec table
-table_file kind.Slot table = Rec table
-table_file kind.Pointer table = Row table
 
 -- the cell that is flawed
 abbrev pub flawed_kind : Flaw → CellKind

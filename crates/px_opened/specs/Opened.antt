@@ -6,7 +6,7 @@ use Rattle.px_chain.specs.Table.{Table}
 use Rattle.px_free.specs.Places.{rows_of}
 use Rattle.px_laid.specs.Places.{Places, laid_over}
 use Rattle.px_laid.specs.Reading.{header_bytes}
-use Rattle.px_laid.specs.Says.{unused_table}
+use Rattle.px_chain.specs.Unused.{unused_table}
 use Rattle.px_laid.specs.Whole.{AreAll, IsLaidPointer, IsLaidSlot}
 use Rattle.px_recs.specs.Text.{HeaderAt}
 use Rattle.px_shown.specs.Tables.{Layouts, Tables, with_table}

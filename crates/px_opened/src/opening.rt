@@ -3,18 +3,17 @@ ghost use Rattle.px_cells.specs.Form.{is_short};
 ghost use Rattle.px_chain.specs.Sound.{Layout};
 ghost use Rattle.px_laid.specs.Places.{places};
 ghost use Rattle.px_laid.specs.Whole.{AreCellsOf};
-ghost use Rattle.px_recs.specs.Place.{is_number_of, place_of};
+ghost use Rattle.px_recs.specs.Place.{is_number_of, place_of, table_file};
 ghost use Rattle.px_model.specs.declared.limits.TheConstants.{MOST_TABLES};
 ghost use Rattle.px_shown.specs.Tables.{Layouts};
-ghost use Rattle.px_opened.specs.Damage.{IsErrorIn, IsErrorOf, flawed_kind, flawed_number, table_file};
+ghost use Rattle.px_opened.specs.Damage.{IsErrorIn, IsErrorOf, flawed_kind, flawed_number};
 ghost use Rattle.px_opened.specs.Opened.{AreOpened, IsOpened, Opens, tables_of};
 ghost use Rattle.px_opened.specs.declared.error.OpenedError.TheVariants.{Damaged};
 
 use crate::error::OpenedError;
 use px_cells::CellKind;
 use px_laid::{Laid, TableCells, TableError};
-use px_recs::cell_place;
-use px_site::FileName;
+use px_recs::{cell_place, table_file};
 use px_survey::{Flaw, survey};
 use px_tables::Table;
 use std::alloc::{AllocError, Global};
@@ -100,12 +99,8 @@ fn damaged(what: CellKind, table: u8, number: u32, short: u32) -> OpenedError
     requires short { IsTrue (is_short short) }
     ensures { result ≡ Damaged (table_file what table) (place_of short what number) }
 {
-    let file = match what {
-        CellKind::Header | CellKind::Slot => FileName::Rec(table),
-        CellKind::Pointer => FileName::Row(table),
-    };
     OpenedError::Damaged {
-        file,
+        file: table_file(what, table),
         place: cell_place(what, number, short),
     }
 }

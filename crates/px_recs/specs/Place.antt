@@ -1,5 +1,7 @@
--- Where cells stand in their files, and how long they are (docs/FORMATS.md, 'Cells').
+-- In which files cells stand, and where, and how long they are (docs/FORMATS.md, 'Cells').
 use Rattle.std.specs.Prelude.{ℕ, ◌+◌, ◌-◌, ◌*◌, Bool, ◌==◌, nat_le}
+use Rattle.px_site.specs.declared.name.FileName.{FileName}
+use Rattle.px_site.specs.declared.name.FileName.TheVariants.{Rec, Row}
 use Rattle.px_cells.specs.declared.limits.TheConstants.{HEADER_SIZE, SLOT_HEAD_SIZE, POINTER_SIZE}
 use Rattle.px_cells.specs.declared.cell.CellKind.{CellKind}
 use Rattle.px_cells.specs.declared.cell.CellKind.TheVariants.{Header, Slot, Pointer}
@@ -21,3 +23,9 @@ abbrev pub place_of : (short : ℕ) → CellKind → (number : ℕ) → ℕ
 place_of short Header number = 0
 place_of short Slot number = HEADER_SIZE + (number - 1) * size_of short Slot
 place_of short Pointer number = (number - 1) * POINTER_SIZE
+
+-- the file in which a table has its cells of that kind
+abbrev pub table_file : CellKind → (table : ℕ) → FileName
+table_file Header table = Rec table
+table_file Slot table = Rec table
+table_file Pointer table = Row table

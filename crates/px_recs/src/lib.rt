@@ -2,7 +2,7 @@
 //! file (docs/FORMATS.md, 'Cells'). Bytes are read as a value exactly where they are its text.
 //!
 //! - `header`, `pointer`, `slot`: a reader and a writer of each kind of cell. `specs/Text` has the texts.
-//! - `place`: `cell_size` and `cell_place`, how long a cell is and where in its file it stands.
+//! - `place`: `table_file`, `cell_size` and `cell_place`: in which file a cell stands, how long it is and where in the file.
 //! - `raw`: the fields of a slot as they stand in its bytes, whatever they are.
 //! - `parts`: a slot whose key and short part still stand in the bytes read, and whether it is in the form.
 //! - `padding`: fields that are zero past the end of what they hold.
@@ -26,6 +26,6 @@ pub use laws::{
     cells_are_apart, cells_follow_one_another, one_reading, read_is_written, sizes_of_texts,
     written_is_read,
 };
-pub use place::{cell_place, cell_size};
+pub use place::{cell_place, cell_size, table_file};
 pub use pointer::{read_pointer, write_pointer};
 pub use slot::{read_slot, write_slot};

@@ -4,22 +4,23 @@ use Rattle.px_cells.specs.declared.pointer.Pointer.{Pointer}
 use Rattle.px_cells.specs.declared.slot.Slot.{Slot}
 use Rattle.px_cells.specs.declared.slot.SlotState.TheVariants.{Row}
 use Rattle.px_chain.specs.Table.{Table}
-use Rattle.px_survey.specs.Cells.{no_slot, table_of}
+use Rattle.px_cells.specs.Unused.{unused_slot}
+use Rattle.px_survey.specs.Cells.{table_of}
 
 -- a row with the key 6b, an empty body and no older variation
 abbrev pub row_slot : (row : ℕ) → Slot
-row_slot row = record no_slot { state = Row; xn = 1; row = row; key = 107 ∷ [] }
+row_slot row = record unused_slot { state = Row; xn = 1; row = row; key = 107 ∷ [] }
 
 abbrev pub heads : (slot : ℕ) → Pointer
 heads slot = record { used = true; head = slot }
 
 -- the free list's one slot leads to itself
 abbrev pub circle : Table
-circle = table_of (record { slots = 1; free_slot = 1; rows = 0; free_row = 0 }) [] (record no_slot { next = 1 } ∷ [])
+circle = table_of (record { slots = 1; free_slot = 1; rows = 0; free_row = 0 }) [] (record unused_slot { next = 1 } ∷ [])
 
 -- a free slot, and an empty free list
 abbrev pub lost_slot : Table
-lost_slot = table_of (record { slots = 1; free_slot = 0; rows = 0; free_row = 0 }) [] (no_slot ∷ [])
+lost_slot = table_of (record { slots = 1; free_slot = 0; rows = 0; free_row = 0 }) [] (unused_slot ∷ [])
 
 -- a slot that says that it is of row 2, in the chain of row 1
 abbrev pub stray_slot : Table

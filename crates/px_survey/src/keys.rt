@@ -1,5 +1,5 @@
 ghost use Rattle.std.specs.Prelude.{◌≡◌, ◌⊎◌, ◌<◌, ◌≤◌, ◌-◌, true, false, length, slice_index_or, IfNone, IfOk, IfSome, OnOk};
-ghost use Rattle.px_survey.specs.Cells.{no_slot};
+ghost use Rattle.px_cells.specs.Unused.{unused_slot};
 ghost use Rattle.px_survey.specs.Surveyed.{Adds, HasKey};
 
 use px_cells::Slot;
@@ -8,7 +8,7 @@ use std::collections::BTreeSet;
 
 /// The key of the slot of that number, where there is one.
 pub(crate) fn key_at(slots: &[Slot], number: u32) -> Option<&[u8]>
-    ensures some { IfSome result (λ key. (1 ≤ number) × (number ≤ length slots.now) × (key.now ≡ (slice_index_or slots.now (number - 1) no_slot).key)) }
+    ensures some { IfSome result (λ key. (1 ≤ number) × (number ≤ length slots.now) × (key.now ≡ (slice_index_or slots.now (number - 1) unused_slot).key)) }
     ensures none { IfNone result ((number ≡ 0) ⊎ (length slots.now < number)) }
 {
     if number == 0 {

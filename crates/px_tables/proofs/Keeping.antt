@@ -16,7 +16,8 @@ use Rattle.px_chain.proofs.Walks.{contains_first, walk_some}
 use Rattle.px_chain.proofs.FreeLists.{IsTaken, taken}
 use Rattle.px_chain.proofs.SoundLink.{head_in, over_laid, row_begun, row_varied}
 use Rattle.px_chain.proofs.SoundLaws.{sound_none}
-use Rattle.px_tables.specs.Held.{Cells, HasLayout, IsKept, free_pointer, no_cells, placed, pointer_at, slot_at, table_of, unused_slot}
+use Rattle.px_cells.specs.Unused.{free_pointer, unused_slot}
+use Rattle.px_tables.specs.Held.{Cells, HasLayout, IsKept, no_cells, placed, pointer_at, slot_at, table_of}
 use Rattle.px_tables.specs.Keys.{AreKeys, HasNoRow, IsRowOf, entry_in, row_named}
 use Rattle.px_tables.specs.Linking.{IsLink}
 use Rattle.px_tables.proofs.Names.{cases_key}

@@ -10,7 +10,8 @@ use Rattle.px_chain.specs.Sound.{IsLinkedAlike, IsSlot, IsSound, IsUsedRow, IsVa
 use Rattle.px_chain.specs.Table.{Table}
 use Rattle.px_chain.proofs.SoundLaws.{sound_alike}
 use Rattle.px_chain.proofs.SoundLink.{head_in}
-use Rattle.px_tables.specs.Held.{Cells, HasLayout, IsKept, cells_from, free_pointer, slot_at, table_at, table_from, table_of, unused_slot}
+use Rattle.px_cells.specs.Unused.{free_pointer, unused_slot}
+use Rattle.px_tables.specs.Held.{Cells, HasLayout, IsKept, cells_from, slot_at, table_at, table_from, table_of}
 use Rattle.px_tables.specs.Keys.{AreKeys, IsRowOf, entry_in, row_named}
 use Rattle.px_tables.proofs.Names.{cases_key}
 

@@ -20,8 +20,9 @@ use Rattle.px_chain.proofs.Forms.{IsFormed, IsLinkStored, all_in_order, all_unli
 use Rattle.px_chain.proofs.Overlays.{laid_header, laid_pointers, row_of_gone}
 use Rattle.px_chain.proofs.SoundLink.{head_in}
 use Rattle.px_chain.proofs.SoundUnlink.{part_keys, part_rows, part_unlinked, parts_split}
+use Rattle.px_cells.specs.Unused.{free_pointer, unused_slot}
 use Rattle.px_tables.specs.declared.unlinking.Unlinking.{Unlinking}
-use Rattle.px_tables.specs.Held.{Cells, HasLayout, IsKept, free_pointer, pointer_at, slot_at, table_of, unused_slot}
+use Rattle.px_tables.specs.Held.{Cells, HasLayout, IsKept, pointer_at, slot_at, table_of}
 use Rattle.px_tables.specs.Keys.{AreKeys, row_named}
 use Rattle.px_tables.specs.Unlinking.{IsUnlink, IsUnlinkOf, is_given_back, parts_in, with_pointer, with_slots}
 use Rattle.px_tables.proofs.Names.{cases_key}

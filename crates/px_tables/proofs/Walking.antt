@@ -11,7 +11,8 @@ use Rattle.px_chain.specs.Links.{chain_of}
 use Rattle.px_chain.specs.Sound.{Walks, IsSlot, IsUsedRow, IsVariation, Layout, head_of}
 use Rattle.px_chain.proofs.Walks.{all_from, walk_some}
 use Rattle.px_chain.proofs.SoundLaws.{chain_once}
-use Rattle.px_tables.specs.Held.{Cells, HasLayout, IsKept, free_pointer, slot_at, table_of}
+use Rattle.px_cells.specs.Unused.{free_pointer}
+use Rattle.px_tables.specs.Held.{Cells, HasLayout, IsKept, slot_at, table_of}
 use Rattle.px_tables.specs.Walked.{Ends, walked}
 use Rattle.px_tables.proofs.Few.{few}
 

@@ -7,6 +7,7 @@ use Rattle.px_cells.specs.declared.slot.SlotState.TheVariants.{Free}
 use Rattle.px_cells.specs.Form.{is_short}
 use Rattle.px_chain.specs.Sound.{IsSound, Layout, no_places}
 use Rattle.px_chain.specs.Table.{Table}
+use Rattle.px_cells.specs.Unused.{unused_slot, free_pointer}
 use Rattle.px_tables.specs.Keys.{AreKeys}
 
 -- The cells of a table, its number and the store's short length. Slots and row pointers stand at their numbers; at place 0
@@ -27,12 +28,6 @@ pub record Room : Type 0 where
 pub record Held : Type 0 where
   pub cells : Cells
   pub room : Room
-
-abbrev pub unused_slot : Slot
-unused_slot = record { state = Free; xn = 0; next = 0; row = 0; tag = 0; total = 0; log = 0; place = 0; key = []; short = [] }
-
-abbrev pub free_pointer : Pointer
-free_pointer = record { used = false; head = 0 }
 
 abbrev pub slot_at : List Slot → ℕ → Slot
 slot_at slots number = slice_index_or slots number unused_slot

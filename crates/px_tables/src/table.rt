@@ -1,7 +1,8 @@
 ghost use Rattle.std.specs.Prelude.{◌≡◌, IfOk, IsTrue};
 ghost use Rattle.px_cells.specs.Form.{is_short};
 ghost use Rattle.px_chain.specs.Sound.{Layout};
-ghost use Rattle.px_tables.specs.Held.{HasLayout, free_pointer, no_cells, table_of, unused_slot};
+ghost use Rattle.px_cells.specs.Unused.{free_pointer, unused_slot};
+ghost use Rattle.px_tables.specs.Held.{HasLayout, no_cells, table_of};
 
 mod linking;
 mod opening;

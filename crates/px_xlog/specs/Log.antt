@@ -7,6 +7,7 @@ use Rattle.px_frame.specs.Frame.{frame}
 use Rattle.px_scan.specs.Scan.{frames_of}
 use Rattle.px_told.specs.declared.change.Change.{Change}
 use Rattle.px_told.specs.declared.change.Change.TheVariants.{Put, Commit, Rollback}
+use Rattle.px_told.specs.Changes.{is_end}
 use Rattle.px_xlog.specs.Payload.{change_text, may_hold_all}
 use Rattle.px_xlog.specs.Reading.{the_log, log_text}
 use Rattle.px_xlog.specs.Images.{IsPlainLog, IsBehind}

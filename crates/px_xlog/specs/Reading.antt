@@ -10,6 +10,9 @@ use Rattle.px_model.specs.declared.write.Write.{Write}
 use Rattle.px_model.specs.Rows.{after}
 use Rattle.px_told.specs.declared.change.Change.{Change}
 use Rattle.px_told.specs.declared.change.Change.TheVariants.{Put, Commit, Rollback}
+use Rattle.px_told.specs.Changes.{greatest_stored}
+use Rattle.px_told.specs.Commits.{CountsFrom, commits_in}
+use Rattle.px_told.specs.Writes.{rows_in}
 use Rattle.px_xlog.specs.Payload.{change_text, may_hold, may_hold_all}
 
 -- until there are segments, the log is one file, and its frames are numbered from 0

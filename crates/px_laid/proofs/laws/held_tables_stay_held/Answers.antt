@@ -1,5 +1,5 @@
 use Rattle.std.proofs.Common.{refl}
-use Rattle.px_laid.specs.Says.{unused_table}
+use Rattle.px_chain.specs.Unused.{unused_table}
 use Rattle.px_laid.proofs.Counts.{nothing}
 use Rattle.px_laid.proofs.Holds.{new_row, new_variation, other_table, unlink}
 use Rattle.px_laid.proofs.Unused.{never_used, unused_header, unused_pointer}

@@ -1,6 +1,7 @@
 use Rattle.std.proofs.Common.{◌≡◌, ℕ, ◌+◌, ◌-◌, ◌≤◌, true, false, get_or, sym, subst, ◌∙◌, arith}
 use Rattle.std.proofs.lemmas.Bool.{false≢true}
-use Rattle.px_survey.specs.Cells.{no_slot, table_in}
+use Rattle.px_cells.specs.Unused.{unused_slot}
+use Rattle.px_survey.specs.Cells.{table_in}
 use Rattle.px_survey.proofs.Ends.{all_sound, first_slot}
 use Rattle.px_survey.proofs.surveying.flawed_slot.Goals as goal
 
@@ -19,4 +20,4 @@ returns-clause-sound c = λ rows reaches short form.
     let slots = c.args.cells.now.slot_count in
     all_sound short (table_in c.args.cells.now) c.args.met.now rows reaches
     (λ slot place. let from = place.0 in let to = place.1 in c.loop-i.invariant slot from (omega arith))
-    (λ slot place. let from = place.0 in let to = place.1 in form (slot - 1) no_slot (omega arith))
+    (λ slot place. let from = place.0 in let to = place.1 in form (slot - 1) unused_slot (omega arith))

@@ -2,7 +2,7 @@ use Rattle.std.proofs.Common.{List, ℕ, Option, replicate, sym, ap, subst, ◌�
 use Rattle.std.specs.Option.{option_copied, unwrap_or}
 use Rattle.px_cells.specs.declared.limits.TheConstants.{POINTER_SIZE}
 use Rattle.px_recs.specs.Text.{PointerAt}
-use Rattle.px_laid.specs.Reading.{free_pointer}
+use Rattle.px_cells.specs.Unused.{free_pointer}
 use Rattle.px_laid.proofs.Unused.{unused_pointer}
 use Rattle.px_laid.proofs.laid.Laid.pointer.Goals as goal
 

@@ -3,7 +3,8 @@ use Rattle.std.specs.Option.{option_copied, unwrap_or}
 use Rattle.px_cells.specs.declared.limits.TheConstants.{SLOT_HEAD_SIZE}
 use Rattle.px_cells.specs.declared.slot.Slot.{Slot}
 use Rattle.px_recs.specs.Text.{SlotAt}
-use Rattle.px_laid.specs.Reading.{slot_bytes, unused_slot}
+use Rattle.px_cells.specs.Unused.{unused_slot}
+use Rattle.px_laid.specs.Reading.{slot_bytes}
 use Rattle.px_laid.specs.Places.{places}
 use Rattle.px_laid.proofs.Unused.{never_used}
 use Rattle.px_laid.proofs.laid.Laid.slot.Goals as goal

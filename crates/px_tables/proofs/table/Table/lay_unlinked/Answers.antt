@@ -4,7 +4,8 @@ use Rattle.px_cells.specs.declared.slot.Slot.{Slot}
 use Rattle.px_chain.specs.Links.{unlink_cells}
 use Rattle.px_chain.specs.Sound.{head_of, key_of}
 use Rattle.px_chain.specs.Table.{laid}
-use Rattle.px_tables.specs.Held.{Cells, Held, HasLayout, slot_at, table_of, unused_slot}
+use Rattle.px_cells.specs.Unused.{unused_slot}
+use Rattle.px_tables.specs.Held.{Cells, Held, HasLayout, slot_at, table_of}
 use Rattle.px_tables.specs.Keys.{row_named}
 use Rattle.px_tables.specs.Unlinking.{IsUnlink, parts_in, with_slots}
 use Rattle.px_tables.proofs.Prepared.{read}

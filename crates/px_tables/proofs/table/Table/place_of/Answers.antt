@@ -1,8 +1,9 @@
 use Rattle.std.proofs.Common.{◌≡◌, ◌≤◌, length, vec_len, sym, ap, subst, ◌∙◌, arith}
 use Rattle.px_cells.specs.declared.pointer.Pointer.{Pointer}
 use Rattle.px_cells.specs.declared.slot.Slot.{Slot}
+use Rattle.px_cells.specs.Unused.{free_pointer, unused_slot}
 use Rattle.px_free.specs.Places.{Places, after_taking, next_place, rows_of, slots_of}
-use Rattle.px_tables.specs.Held.{Cells, Held, free_pointer, table_of, unused_slot}
+use Rattle.px_tables.specs.Held.{Cells, Held, table_of}
 use Rattle.px_tables.specs.Keys.{HasNoRow, IsRowOf}
 use Rattle.px_tables.specs.Linking.{IsLink}
 use Rattle.px_tables.proofs.Keeping.{begins_row, new_row_within, number_within, row_front_in, slot_front_in, varies_row}

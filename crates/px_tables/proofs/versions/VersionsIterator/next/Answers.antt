@@ -1,7 +1,7 @@
 use Rattle.std.proofs.Common.{◌≡◌, ◌∷◌, length, sym, ap, subst, ◌∙◌}
 use Rattle.std.proofs.lemmas.List.{get_or_default}
 use Rattle.px_cells.specs.declared.slot.Slot.{Slot}
-use Rattle.px_tables.specs.Held.{unused_slot}
+use Rattle.px_cells.specs.Unused.{unused_slot}
 use Rattle.px_tables.specs.Walked.{Ends, walked}
 use Rattle.px_tables.proofs.Walking.{fewer_left, goes_on, walked_none}
 use Rattle.px_tables.proofs.versions.VersionsIterator.next.Goals as goal
