@@ -107,12 +107,12 @@ map_same a b row (n ∷ chain) same all =
     ap (λ (s : Slot). s ∷ map a.slot chain) (same.slots n (All-head (IsVariation a row) n chain all).place)
     ∙ ap (λ (l : List Slot). b.slot n ∷ l) (map_same a b row chain same (All-tail (IsVariation a row) n chain all))
 
-record IsSameRow (a b : Table) (of_a of_b : Layout) (row : ℕ) : Type 0 where
+pub record IsSameRow (a b : Table) (of_a of_b : Layout) (row : ℕ) : Type 0 where
   pub used : IsUsedRow a row
   pub key : key_of a row ≡ key_of b row
   pub slots : slots_of_row a of_a row ≡ slots_of_row b of_b row
 
-same_row : (short : ℕ) (a b : Table) (of_a of_b : Layout) (row : ℕ) → IsSound short a of_a → IsSameTable a b → IsSameLayout of_a of_b → IsUsedRow b row
+pub same_row : (short : ℕ) (a b : Table) (of_a of_b : Layout) (row : ℕ) → IsSound short a of_a → IsSameTable a b → IsSameLayout of_a of_b → IsUsedRow b row
     → IsSameRow a b of_a of_b row
 same_row short a b of_a of_b row sound same alike used_b =
     let place = subst (λ (h : Header). IsPlace (rows_of h) row) (sym same.header) used_b.0 in

@@ -1,0 +1,5 @@
+pub mod Between
+pub mod Found
+pub mod Fronts
+pub mod Made
+pub mod Over

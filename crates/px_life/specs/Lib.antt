@@ -1,0 +1,5 @@
+pub mod Example
+pub mod Extends
+pub mod Found
+pub mod Laid
+pub mod Life

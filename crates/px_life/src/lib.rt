@@ -1,0 +1,18 @@
+//! The life of a store: the frames of its log as steps from what the opening found.
+//!
+//! The frames before `start` were read by the opening; from there on each is a step. A front of a life, the frames below some number, is
+//! a store: it lies at its places and shows the rows after its commits. What a crash leaves, what table files hold and what an opening
+//! finds are said of it, so none of these has to speak of another.
+//!
+//! - `laws`: fronts, a life that grows, a store that was just made, and what an opening found.
+//!
+//! The definitions: `specs/Life` a life; `specs/Found` what an opening found, as a life; `specs/Extends` places that have all
+//! that others have; `specs/Laid` the cells of changes.
+#![tactic(auto)]
+
+mod laws;
+
+pub use laws::{
+    a_front_shows, a_life_begins, a_life_grows, a_new_store_is_a_life, fronts_hold,
+    more_places_open_to_the_same,
+};
