@@ -1,21 +1,19 @@
 -- What an opening found is a life without steps.
-use Rattle.std.proofs.Common.{◌≡◌, ℕ, zero, suc, ◌+◌, ◌-◌, ◌<◌, ◌≤◌, ◌&&◌, not, Bool, cond, true, false, List, [], ◌∷◌, All, IsSome, Option, Some, None, drop, is_some, length, replicate, take, refl, sym, ap, subst, ◌∙◌, arith, inl, inr}
+use Rattle.std.proofs.Common.{◌≡◌, ℕ, ◌+◌, ◌-◌, ◌<◌, ◌≤◌, ◌&&◌, not, Bool, cond, true, false, List, [], All, IsSome, Option, Some, None, drop, is_some, length, replicate, refl, sym, ap, subst, ◌∙◌, arith, inl, inr}
 use Rattle.std.specs.Prelude.{nat_le, nat_lt, IsSomeAnd, unwrap_or}
 use Rattle.std.proofs.lemmas.Bool.{and_from, and_parts, cases_Bool, false≢true, le-leb, leb-true, lt-ltb, le-ltb}
 use Rattle.std.proofs.lemmas.List.{drop_all, length-drop, take_all}
-use Rattle.std.proofs.lemmas.List.Elements.{All-map}
 use Rattle.px_cells.specs.Unused.{free_pointer, unused_slot}
-use Rattle.px_cells.specs.declared.cell.CellKind.{CellKind}
 use Rattle.px_cells.specs.declared.cell.CellKind.TheVariants as kind
 use Rattle.px_cells.specs.declared.limits.TheConstants.{POINTER_SIZE}
 use Rattle.px_cells.specs.declared.pointer.Pointer.{Pointer}
 use Rattle.px_cells.specs.declared.slot.Slot.{Slot}
 use Rattle.px_change.specs.declared.change.Change.{Change}
-use Rattle.px_chain.specs.Sound.{IsPlace, IsSlot, IsSound, IsUsedRow, Layout}
+use Rattle.px_chain.specs.Sound.{IsPlace, IsSlot, IsUsedRow, Layout}
 use Rattle.px_chain.specs.Table.{Table}
-use Rattle.px_free.specs.Places.{rows_of, slots_of}
+use Rattle.px_free.specs.Places.{rows_of}
 use Rattle.px_history.specs.Base.{IsBase}
-use Rattle.px_history.specs.Store.{IsOpen, Store, versions_of}
+use Rattle.px_history.specs.Store.{Store}
 use Rattle.px_laid.specs.Holds.{Holds}
 use Rattle.px_laid.specs.Places.{Places, none_laid}
 use Rattle.px_laid.proofs.Unused as unused
@@ -23,9 +21,9 @@ use Rattle.px_model.specs.declared.row.Row.{Row}
 use Rattle.px_recs.specs.Place.{size_of}
 use Rattle.px_recs.specs.Text.{PointerAt, SlotAt}
 use Rattle.px_shown.specs.Shown.{Done, Shows}
-use Rattle.px_shown.specs.Tables.{AreSound, Layouts, Tables, slots_of_row}
+use Rattle.px_shown.specs.Tables.{Layouts, Tables, slots_of_row}
 use Rattle.px_opened.specs.Kept.{HoldsStore}
-use Rattle.px_opened.specs.Opened.{IsSameLayout, IsSameTable, IsTable, IsUnused, Opens, OpensTo, changes_over}
+use Rattle.px_opened.specs.Opened.{IsSameTable, Opens, OpensTo, changes_over}
 use Rattle.px_opened.proofs.One.{all_sound, same_row, same_sound}
 use Rattle.px_life.specs.Extends.{Extends}
 use Rattle.px_life.specs.Found.{AreBelow, counted_places, counted_table, counted_tables, is_counted, life_found, store_found}
