@@ -1,0 +1,28 @@
+ghost use Rattle.std.specs.Prelude.{◌≡◌, ◌+◌, ◌^◌, ◌<◌, ◌≤◌, ◌↔◌, ℕ, Contains, length};
+ghost use Rattle.px_chain.specs.Sound.{IsApart, IsSound, IsUsedRow, Layout};
+ghost use Rattle.px_chain.specs.Table.{Table};
+ghost use Rattle.px_free.specs.Places.{AreFull, rows_of, slots_of};
+ghost use Rattle.px_model.specs.declared.limits.TheConstants.{MOST_VARIATIONS};
+ghost use Rattle.px_counted.specs.Counts.{slots_in_chains, used_rows};
+
+/// Each slot that was ever used stands on the free list or in the chain of a used row, each row pointer is free or used, and
+/// none is counted twice.
+pub fn places_are_counted()
+    ensures slots { (short : ℕ) (table : Table) (layout : Layout) → IsSound short table layout
+        → table.header.slots ≡ length layout.free_slots + slots_in_chains table layout }
+    ensures rows { (short : ℕ) (table : Table) (layout : Layout) → IsSound short table layout
+        → table.header.rows ≡ length layout.free_rows + length (used_rows table) }
+    ensures used { (table : Table) (row : ℕ) → Contains (used_rows table) row ↔ IsUsedRow table row }
+    ensures once { (table : Table) → IsApart (used_rows table) }
+{}
+
+/// A table whose slots' numbers fit has none left just where its chains have as many as a table may have variations. Each used row
+/// has a chain of at least one, so row pointers run out only where slots have.
+pub fn row_pointers_last_as_long_as_slots()
+    ensures full { (short : ℕ) (table : Table) (layout : Layout) → IsSound short table layout → table.header.slots < 2 ^ 32
+        → (AreFull (slots_of table.header) ↔ (slots_in_chains table layout ≡ MOST_VARIATIONS)) }
+    ensures one_each { (short : ℕ) (table : Table) (layout : Layout) → IsSound short table layout
+        → length (used_rows table) ≤ slots_in_chains table layout }
+    ensures rows_first { (short : ℕ) (table : Table) (layout : Layout) → IsSound short table layout → table.header.slots < 2 ^ 32
+        → AreFull (rows_of table.header) → AreFull (slots_of table.header) }
+{}
