@@ -1,7 +1,8 @@
 -- Lists in which no number stands twice, and how long they are.
-use Rattle.std.proofs.Common.{◌≡◌, ℕ, zero, suc, ◌+◌, ◌-◌, ◌<◌, ◌≤◌, Bool, true, false, cond, List, [], ◌∷◌, ◌++◌, length, refl, sym, ap, subst, ◌∙◌, arith, ⊎_elim}
+use Rattle.std.proofs.Common.{◌≡◌, ℕ, zero, suc, ◌+◌, ◌-◌, ◌<◌, ◌≤◌, Bool, true, false, cond, List, [], ◌∷◌, ◌++◌, length, map, refl, sym, ap, subst, ◌∙◌, arith, ⊎_elim}
 use Rattle.std.specs.Prelude.{Contains, filter, flat_map, sum_by}
 use Rattle.std.specs.List.{range_with_len}
+use Rattle.std.proofs.lemmas.Bool.{false_from_ne_true, false≢true}
 use Rattle.std.proofs.lemmas.List.{length-append}
 use Rattle.std.proofs.lemmas.List.Concat.{flat_map-cons}
 use Rattle.std.proofs.lemmas.List.Elements.{All-contains, All-contains_itself, All-filter, Contains-append_left, Contains-append_right, Contains-append_cases}
@@ -27,6 +28,27 @@ is_kept {X} p x (y ∷ ys) there passes = ⊎_elim
       | false ↦ is_kept p x ys later passes
     ])
     (contains_cases y x ys there)
+
+-- what passes a test that lets less through passes both
+pub kept_twice : {X : Type 0} (p q : X → Bool) → ((x : X) → p x ≡ true → q x ≡ true) → (xs : List X) → filter p (filter q xs) ≡ filter p xs
+kept_twice p q within [] = refl
+kept_twice p q within (x ∷ xs) =
+    (elim (q x) as (λ b. q x ≡ b → filter p (cond b (x ∷ filter q xs) (filter q xs)) ≡ cond (p x) (x ∷ filter p xs) (filter p xs)) [
+      | true ↦ λ yes.
+          elim (p x) as (λ b. cond b (x ∷ filter p (filter q xs)) (filter p (filter q xs)) ≡ cond b (x ∷ filter p xs) (filter p xs)) [
+            | true ↦ ap (λ l. x ∷ l) (kept_twice p q within xs)
+            | false ↦ kept_twice p q within xs
+          ]
+      | false ↦ λ no.
+          kept_twice p q within xs
+          ∙ sym (ap (λ b. cond b (x ∷ filter p xs) (filter p xs)) (false_from_ne_true (p x) (λ passes. false≢true (sym no ∙ within x passes))))
+    ]) refl
+
+pub none_kept : {X : Type 0} (p : X → Bool) (xs : List X) → ((x : X) → Contains xs x → p x ≡ false) → filter p xs ≡ []
+none_kept p [] fails = refl
+none_kept p (x ∷ xs) fails =
+    ap (λ b. cond b (x ∷ filter p xs) (filter p xs)) (fails x (contains_first x xs))
+    ∙ none_kept p xs (λ y there. fails y (contains_other x y xs there))
 
 pub apart_kept : (p : ℕ → Bool) (xs : List ℕ) → IsApart xs → IsApart (filter p xs)
 apart_kept p [] apart = tt
@@ -119,7 +141,30 @@ counts n xs apart to back =
     (λ x there. let r = of_range 1 n x there in back x (r.0, omega (arith, r.1))) in
     omega (arith, same, length-range_with_len 1 n)
 
+-- a list of one number, once, or of none
+pub at_most_one : (xs : List ℕ) → IsApart xs → ((x y : ℕ) → Contains xs x → Contains xs y → x ≡ y) → length xs ≤ 1
+at_most_one [] apart one = omega arith
+at_most_one (x ∷ []) apart one = omega arith
+at_most_one (x ∷ (y ∷ ys)) apart one =
+    let same = one x y (contains_first x (y ∷ ys)) (contains_other x y (y ∷ ys) (contains_first y ys)) in
+    absurd (apart.0 (subst (λ (z : ℕ). Contains (y ∷ ys) z) (sym same) (contains_first y ys)))
+
 -- ---- sums
+
+pub sum_of_ones : {X : Type 0} (xs : List X) → sum_by (λ (x : X). 1) xs ≡ length xs
+sum_of_ones [] = refl
+sum_of_ones {X} (x ∷ xs) =
+    let a = sum_by-cons (λ (y : X). 1) x xs in
+    let more = sum_of_ones xs in
+    omega (arith, a, more)
+
+pub sum_mapped : {X Y : Type 0} (f : Y → ℕ) (g : X → Y) (xs : List X) → sum_by f (map g xs) ≡ sum_by (λ x. f (g x)) xs
+sum_mapped f g [] = refl
+sum_mapped {X} f g (x ∷ xs) =
+    let a = sum_by-cons f (g x) (map g xs) in
+    let b = sum_by-cons (λ (y : X). f (g y)) x xs in
+    let more = sum_mapped f g xs in
+    omega (arith, a, b, more)
 
 pub sum_alike : (f g : ℕ → ℕ) (xs : List ℕ) → ((x : ℕ) → Contains xs x → f x ≡ g x) → sum_by f xs ≡ sum_by g xs
 sum_alike f g [] same = refl

@@ -1,8 +1,13 @@
-ghost use Rattle.std.specs.Prelude.{◌≡◌, ◌+◌, ◌^◌, ◌<◌, ◌≤◌, ◌↔◌, ℕ, Contains, length};
+ghost use Rattle.std.specs.Prelude.{◌≡◌, ◌+◌, ◌-◌, ◌^◌, ◌<◌, ◌≤◌, ◌↔◌, ℕ, Contains, length, true};
 ghost use Rattle.px_chain.specs.Sound.{IsApart, IsSound, IsUsedRow, Layout};
 ghost use Rattle.px_chain.specs.Table.{Table};
 ghost use Rattle.px_free.specs.Places.{AreFull, rows_of, slots_of};
+ghost use Rattle.px_history.specs.Store.{Store};
+ghost use Rattle.px_model.specs.Chains.{variations_of_table};
+ghost use Rattle.px_model.specs.Machine.{Machine};
+ghost use Rattle.px_model.specs.Rows.{in_order};
 ghost use Rattle.px_model.specs.declared.limits.TheConstants.{MOST_VARIATIONS};
+ghost use Rattle.px_cell_laws.specs.Holding.{HoldsChains};
 ghost use Rattle.px_counted.specs.Counts.{slots_in_chains, used_rows};
 
 /// Each slot that was ever used stands on the free list or in the chain of a used row, each row pointer is free or used, and
@@ -25,4 +30,16 @@ pub fn row_pointers_last_as_long_as_slots()
         → length (used_rows table) ≤ slots_in_chains table layout }
     ensures rows_first { (short : ℕ) (table : Table) (layout : Layout) → IsSound short table layout → table.header.slots < 2 ^ 32
         → AreFull (rows_of table.header) → AreFull (slots_of table.header) }
+{}
+
+/// A table's variations are the slots in its chains, whose numbers are those used less those on the free list. So the table is full
+/// of variations just where its header says that no slot is left.
+pub fn variations_are_the_slots_in_chains()
+    ensures in_chains { (m : Machine) (store : Store) (t : ℕ) → HoldsChains m store → in_order m.opening ≡ true
+        → variations_of_table m t ≡ slots_in_chains (store.tables t) (store.layouts t) }
+    ensures counted { (m : Machine) (store : Store) (t : ℕ) → HoldsChains m store → in_order m.opening ≡ true
+        → variations_of_table m t ≡ (store.tables t).header.slots - length (store.layouts t).free_slots }
+    ensures full { (m : Machine) (store : Store) (t : ℕ) → HoldsChains m store → in_order m.opening ≡ true
+        → (store.tables t).header.slots < 2 ^ 32
+        → (AreFull (slots_of (store.tables t).header) ↔ (variations_of_table m t ≡ MOST_VARIATIONS)) }
 {}
