@@ -75,11 +75,11 @@ apart_range a (suc n) = (λ there. let r = of_range (a + 1) n a there in omega (
 
 -- ---- lists behind one another
 
-pub apart_both : (xs ys : List ℕ) → IsApart xs → IsApart ys → ((x : ℕ) → Contains xs x → Contains ys x → ⊥) → IsApart (xs ++ ys)
-apart_both [] ys a b away = b
-apart_both (x ∷ xs) ys a b away = (
+pub apart_joined : (xs ys : List ℕ) → IsApart xs → IsApart ys → ((x : ℕ) → Contains xs x → Contains ys x → ⊥) → IsApart (xs ++ ys)
+apart_joined [] ys a b away = b
+apart_joined (x ∷ xs) ys a b away = (
   λ there. ⊎_elim (λ (h : Contains xs x). a.0 h) (λ (h : Contains ys x). away x (contains_first x xs) h) (Contains-append_cases xs ys x there),
-  apart_both xs ys a.1 b (λ y h. away y (contains_other x y xs h)),
+  apart_joined xs ys a.1 b (λ y h. away y (contains_other x y xs h)),
 )
 
 pub in_one_of : (f : ℕ → List ℕ) (x y : ℕ) (xs : List ℕ) → Contains xs x → Contains (f x) y → Contains (flat_map f xs) y
@@ -101,7 +101,7 @@ pub apart_all : (f : ℕ → List ℕ) (xs : List ℕ) → IsApart xs → ((x : 
     → ((x y place : ℕ) → Contains (f x) place → Contains (f y) place → x ≡ y) → IsApart (flat_map f xs)
 apart_all f [] apart each one = tt
 apart_all f (x ∷ xs) apart each one =
-    subst IsApart (sym (flat_map-cons f x xs)) (apart_both (f x) (flat_map f xs) (each x (contains_first x xs))
+    subst IsApart (sym (flat_map-cons f x xs)) (apart_joined (f x) (flat_map f xs) (each x (contains_first x xs))
     (apart_all f xs apart.1 (λ y h. each y (contains_other x y xs h)) one)
     (λ place here there. let r = of_one_of f place xs there in apart.0 (subst (λ (w : ℕ). Contains xs w) (sym (one x r.0 place here r.2)) r.1)))
 

@@ -13,7 +13,7 @@ use Rattle.px_chain.specs.Sound.{IsApart, IsFreeRow, IsFreeSlot, IsPlace, IsSlot
 use Rattle.px_chain.specs.Table.{Table}
 use Rattle.px_chain.proofs.SoundLaws.{chain_once, chain_or_free, free_rows_once, free_slots_once, one_chain}
 use Rattle.px_counted.specs.Counts.{slots_in_chains, used_rows}
-use Rattle.px_counted.proofs.Lists.{apart_all, apart_both, apart_kept, apart_range, counts, in_one_of, in_range, is_kept, kept_stood, of_one_of, of_range}
+use Rattle.px_counted.proofs.Lists.{apart_all, apart_joined, apart_kept, apart_range, counts, in_one_of, in_range, is_kept, kept_stood, of_one_of, of_range}
 
 -- ---- the used rows
 
@@ -47,7 +47,7 @@ rows_counted short table layout sound =
     let free = layout.free_rows in
     let used = used_rows table in
     counts table.header.rows (free ++ used)
-    (apart_both free used (free_rows_once short table layout sound) (used_once table)
+    (apart_joined free used (free_rows_once short table layout sound) (used_once table)
     (λ row here there. let f = (free_row short table layout row sound here).1 in let u = (among_is_used table row there).1 in cc))
     (λ row there. ⊎_elim
     (λ (here : Contains free row). (free_row short table layout row sound here).0)
@@ -75,7 +75,7 @@ slots_listed short table layout sound =
     let variation : (row slot : ℕ) → IsUsedRow table row → Contains (layout.chain row) slot → IsVariation table row slot =
     λ row slot is_used there. All-contains (IsVariation table row) (layout.chain row) slot (sound.chains row is_used).variations there in
     counts table.header.slots (free ++ chained)
-    (apart_both free chained (free_slots_once short table layout sound)
+    (apart_joined free chained (free_slots_once short table layout sound)
     (apart_all layout.chain used (used_once table) (λ row there. chain_once short table layout row sound)
     (λ row other slot here there. one_chain short table layout row other slot sound here there))
     (λ slot here there. let of = of_one_of layout.chain slot used there in chain_or_free short table layout of.0 slot sound of.2 here))

@@ -5,7 +5,7 @@ use Rattle.std.proofs.lemmas.Bool.{cases_eq, eq-eqb, eqb-true, false_from_ne_tru
 use Rattle.std.proofs.lemmas.List.{length-map, length-reverse}
 use Rattle.std.proofs.lemmas.List.Elements.{All-contains, filter_passes}
 use Rattle.std.proofs.lemmas.List.Sums.{length-filter}
-use Rattle.px_free.specs.Places.{AreFull, slots_of}
+use Rattle.px_free.specs.Places.{AreFull, rows_of, slots_of}
 use Rattle.px_chain.specs.Sound.{IsUsedRow, key_of}
 use Rattle.px_history.specs.Store.{Store, versions_of}
 use Rattle.px_machine_laws.proofs.Overlap.{same_key-is}
@@ -19,10 +19,12 @@ use Rattle.px_model_laws.specs.Keys.{is_of}
 use Rattle.px_model_laws.proofs.Counting.{AreKeysOfAll, sum-by_keys}
 use Rattle.px_model_laws.proofs.Laws.{chains_are_cut}
 use Rattle.px_shown.proofs.Keys.{key_made, same_key-refl}
-use Rattle.px_cell_laws.specs.Holding.{HoldsChains, variation_in}
+use Rattle.px_tables.specs.Keys.{HasNoRow}
+use Rattle.px_tables.specs.Linking.{IsFull}
+use Rattle.px_cell_laws.specs.Holding.{HoldsChains}
 use Rattle.px_cell_laws.proofs.Chained.{chain_of_row, no_row_no_chain}
 use Rattle.px_counted.specs.Counts.{slots_in_chains, used_rows}
-use Rattle.px_counted.proofs.Full.{chains_fill, full_in_chains}
+use Rattle.px_counted.proofs.Full.{chains_fill, full_in_chains, slots_are_first}
 use Rattle.px_counted.proofs.Lists.{apart_kept, at_most_one, is_kept, kept_stood, kept_twice, none_kept, sum_alike, sum_mapped, sum_of_ones}
 use Rattle.px_counted.proofs.Places.{among_is_used, slots_counted, used_is_among, used_once}
 
@@ -62,7 +64,7 @@ slots_of_a_row m store t row h opening used =
     ∙ length-map (chain m key) (λ (v : Variation). v.write)
     ∙ sym (length-reverse (chain m key))
     ∙ ap length (chain_of_row m store t row h used)
-    ∙ length-map (versions_of store t row) (variation_in m.base t)
+    ∙ length-map (versions_of store t row) _
     ∙ length-map ((store.layouts t).chain row) (store.tables t).slot
 
 -- ---- the keys of the rows
@@ -142,3 +144,13 @@ pub variations_fill : (m : Machine) (store : Store) (t : ℕ) → HoldsChains m 
     → variations_of_table m t ≡ MOST_VARIATIONS → AreFull (slots_of (store.tables t).header)
 variations_fill m store t h opening fits most =
     chains_fill m.short (store.tables t) (store.layouts t) (h.sound t) fits (sym (in_chains m store t h opening) ∙ most)
+
+-- no place is left for a key of the table
+pub full_for_a_key : (m : Machine) (store : Store) (t : ℕ) (key : List ℕ) → HoldsChains m store → in_order m.opening ≡ true
+    → (store.tables t).header.slots < 2 ^ 32 → IsFull (store.tables t) key → variations_of_table m t ≡ MOST_VARIATIONS
+full_for_a_key m store t key h opening fits full =
+    full_of_variations m store t h opening (⊎_elim
+    (λ (slots : AreFull (slots_of (store.tables t).header)). slots)
+    (λ (rows : AreFull (rows_of (store.tables t).header) × HasNoRow (store.tables t) key).
+    slots_are_first m.short (store.tables t) (store.layouts t) (h.sound t) fits rows.0)
+    full)
