@@ -67,6 +67,9 @@ tells_moved parts others t slot log place same = record { xn = refl; write = in_
     in_state state.Deletion = refl
     in_state state.Free = refl
 
+pub write_agrees : (parts others : Parts) (t : ℕ) (slot : Slot) → AgreeAt parts others slot → write_of others t slot ≡ write_of parts t slot
+write_agrees parts others t slot agree = (tells_moved parts others t slot slot.log slot.place (tail_agrees parts others slot agree)).write
+
 first_told : (parts others : Parts) (t : ℕ) (slot other : Slot) (b c : Bool) (rest later : Option Slot) → c ≡ b → write_of others t other ≡ write_of parts t slot
     → option_map (write_of others t) later ≡ option_map (write_of parts t) rest
     → option_map (write_of others t) (cond c (Some other) later) ≡ option_map (write_of parts t) (cond b (Some slot) rest)

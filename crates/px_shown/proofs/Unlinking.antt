@@ -1,5 +1,5 @@
 -- What is told by chains, after an unlink.
-use Rattle.std.proofs.Common.{◌≡◌, ℕ, ◌+◌, ◌≤◌, ◌==◌, true, List, ◌++◌, map, take, drop, length, Option, None, option_map, sym, ap, subst, ◌∙◌}
+use Rattle.std.proofs.Common.{◌≡◌, ℕ, ◌+◌, ◌≤◌, ◌==◌, true, List, ◌++◌, map, take, drop, length, Option, option_map, sym, ap, subst, ◌∙◌}
 use Rattle.std.specs.Prelude.{Contains}
 use Rattle.std.specs.List.{take-map, drop-map}
 use Rattle.std.proofs.lemmas.List.{map-append}
@@ -8,7 +8,6 @@ use Rattle.px_chain.specs.Sound.{IsUsedRow, key_of}
 use Rattle.px_model.specs.declared.row.Row.{Row}
 use Rattle.px_model.specs.declared.write.Write.{Write}
 use Rattle.px_model.specs.Rows.{Key, row_at}
-use Rattle.px_machine_laws.specs.Seen.{row_left}
 use Rattle.px_shown.specs.Tables.{Tables, Layouts, AreSound, slots_of_row}
 use Rattle.px_shown.specs.Parts.{Parts}
 use Rattle.px_shown.specs.Shown.{AreToldByChains, Done, Shows, row_shown, slot_shown, write_of}
