@@ -11,6 +11,7 @@ use Rattle.px_cells.specs.declared.cell.CellKind.TheVariants as kinds
 use Rattle.px_change.specs.declared.change.Change.{Change}
 use Rattle.px_laid.specs.Places.{Places, none_laid}
 use Rattle.px_laid.specs.Reading.{header_bytes}
+use Rattle.px_shown.specs.Parts.{Parts}
 use Rattle.px_model.specs.declared.row.Row.{Row}
 use Rattle.px_opened.specs.Opened.{changes_over}
 use Rattle.px_recs.specs.Place.{size_of}
@@ -30,8 +31,8 @@ cases_Option (Some x) = inr (x, refl)
 is_not_none : {X : Type 0} (o : Option X) → IsSome o → o ≡ None → ⊥
 is_not_none o some none = false≢true (subst IsSome none some)
 
-module _ (short tables next : ℕ) (rows : List Row) (life : Life) (redo applied durable : ℕ) (files : FileName → FileState) (image : Contents) (frame : ℕ)
-    (is : IsLife short tables next rows life) (keeps : KeepsFiles short life redo applied files)
+module _ (parts : Parts) (short tables next : ℕ) (rows : List Row) (life : Life) (redo applied durable : ℕ) (files : FileName → FileState) (image : Contents) (frame : ℕ)
+    (is : IsLife parts short tables next rows life) (keeps : KeepsFiles short life redo applied files)
     (redo_from : life.redo ≤ redo) (redo_to : redo ≤ applied) (written : applied ≤ durable) (start : life.start ≤ durable)
     (from : durable ≤ frame) (to : frame ≤ end_of life) (images : (name : FileName) → IsImage (files name) (image name)) where
   abbrev pub on_disk : Places
@@ -197,12 +198,12 @@ module _ (short tables next : ℕ) (rows : List Row) (life : Life) (redo applied
         | inr some ↦ ap (λ (o : Option (List ℕ)). unwrap_or o (replicate 16 0)) (all_laid kinds.Header table 0 some.0 some.1 ∙ sym some.1)
       ]
 
-pub files_lie : (short tables next : ℕ) (rows : List Row) (life : Life) (redo applied durable : ℕ) (files : FileName → FileState) (image : Contents) (frame : ℕ)
-    → IsLife short tables next rows life → KeepsFiles short life redo applied files
+pub files_lie : (parts : Parts) (short tables next : ℕ) (rows : List Row) (life : Life) (redo applied durable : ℕ) (files : FileName → FileState) (image : Contents) (frame : ℕ)
+    → IsLife parts short tables next rows life → KeepsFiles short life redo applied files
     → life.redo ≤ redo → redo ≤ applied → applied ≤ durable → life.start ≤ durable → durable ≤ frame → frame ≤ end_of life
     → ((name : FileName) → IsImage (files name) (image name))
     → Extends (places_at life frame) (changes_over (file_places short image) (between life redo frame))
-files_lie short tables next rows life redo applied durable files image frame is keeps redo_from redo_to written start from to images = record {
-  laid = all_laid short tables next rows life redo applied durable files image frame is keeps redo_from redo_to written start from to images;
-  headers = same_header short tables next rows life redo applied durable files image frame is keeps redo_from redo_to written start from to images;
+files_lie parts short tables next rows life redo applied durable files image frame is keeps redo_from redo_to written start from to images = record {
+  laid = all_laid parts short tables next rows life redo applied durable files image frame is keeps redo_from redo_to written start from to images;
+  headers = same_header parts short tables next rows life redo applied durable files image frame is keeps redo_from redo_to written start from to images;
 }

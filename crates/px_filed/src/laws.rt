@@ -1,5 +1,6 @@
 ghost use Rattle.std.specs.Prelude.{◌≤◌, ℕ, List};
 ghost use Rattle.px_apply.specs.Contents.{Contents};
+ghost use Rattle.px_shown.specs.Parts.{Parts};
 ghost use Rattle.px_model.specs.declared.row.Row.{Row};
 ghost use Rattle.px_opened.specs.Opened.{changes_over};
 ghost use Rattle.px_site.specs.Disk.{FileState, IsImage};
@@ -11,8 +12,8 @@ ghost use Rattle.px_filed.specs.Filed.{KeepsFiles, file_places};
 /// What a crash leaves of the table files, under the frames from `redo` on, has all cells of the front that ends at a frame, where this
 /// has the durable ones before it: those that the store has there, and the same headers.
 pub fn files_lie_under_their_frames()
-    ensures { (short tables next : ℕ) (rows : List Row) (life : Life) (redo applied durable : ℕ) (files : FileName → FileState) (image : Contents) (frame : ℕ)
-        → IsLife short tables next rows life → KeepsFiles short life redo applied files
+    ensures { (parts : Parts) (short tables next : ℕ) (rows : List Row) (life : Life) (redo applied durable : ℕ) (files : FileName → FileState) (image : Contents) (frame : ℕ)
+        → IsLife parts short tables next rows life → KeepsFiles short life redo applied files
         → life.redo ≤ redo → redo ≤ applied → applied ≤ durable → life.start ≤ durable → durable ≤ frame → frame ≤ end_of life
         → ((name : FileName) → IsImage (files name) (image name))
         → Extends (places_at life frame) (changes_over (file_places short image) (between life redo frame)) }

@@ -12,6 +12,7 @@ use Rattle.px_change.specs.declared.change.Change.{Change}
 use Rattle.px_chain.specs.Sound.{IsPlace, IsSlot, IsUsedRow, Layout}
 use Rattle.px_chain.specs.Table.{Table}
 use Rattle.px_free.specs.Places.{rows_of}
+use Rattle.px_history.specs.Written.{AreChangesOf}
 use Rattle.px_history.specs.Base.{IsBase}
 use Rattle.px_history.specs.Store.{Store}
 use Rattle.px_laid.specs.Holds.{Holds}
@@ -20,6 +21,7 @@ use Rattle.px_laid.proofs.Unused as unused
 use Rattle.px_model.specs.declared.row.Row.{Row}
 use Rattle.px_recs.specs.Place.{size_of}
 use Rattle.px_recs.specs.Text.{PointerAt, SlotAt}
+use Rattle.px_shown.specs.Parts.{Parts}
 use Rattle.px_shown.specs.Shown.{Done, Shows}
 use Rattle.px_shown.specs.Tables.{Layouts, Tables, slots_of_row}
 use Rattle.px_opened.specs.Kept.{HoldsStore}
@@ -28,7 +30,7 @@ use Rattle.px_opened.proofs.One.{all_sound, same_row, same_sound}
 use Rattle.px_life.specs.Extends.{Extends}
 use Rattle.px_life.specs.Found.{AreBelow, counted_places, counted_table, counted_tables, is_counted, life_found, store_found}
 use Rattle.px_life.specs.Laid.{cells_by, is_laid_by}
-use Rattle.px_life.specs.Life.{AreChangesOf, AreRead, IsLife, Life, MayStand, between, committed_by}
+use Rattle.px_life.specs.Life.{AreRead, IsLife, Life, MayStand, between, committed_by}
 use Rattle.px_life.proofs.Over.{here, here_some}
 
 -- ---- what is counted
@@ -129,20 +131,20 @@ counted_extend found places = record {
 
 -- what is said of the laws below: cells show what those that places open to show, and who is done is asked of numbers in chains alone
 abbrev pub OpensShow : Type 0
-OpensShow = (short tables : ℕ) (places : Places) (a b : Tables) (of_a of_b : Layouts) (done : Done) (rows : List Row)
-    → Opens short tables places a of_a → Opens short tables places b of_b → Shows a of_a done rows → Shows b of_b done rows
+OpensShow = (parts : Parts) (short tables : ℕ) (places : Places) (a b : Tables) (of_a of_b : Layouts) (done : Done) (rows : List Row)
+    → Opens short tables places a of_a → Opens short tables places b of_b → Shows parts a of_a done rows → Shows parts b of_b done rows
 
 abbrev pub NumbersAreAsked : Type 0
-NumbersAreAsked = (tables : Tables) (layouts : Layouts) (done other : Done) (rows : List Row)
+NumbersAreAsked = (parts : Parts) (tables : Tables) (layouts : Layouts) (done other : Done) (rows : List Row)
     → ((t row : ℕ) → IsUsedRow (tables t) row → All (λ slot. done slot.xn ≡ other slot.xn) (slots_of_row (tables t) (layouts t) row))
-    → Shows tables layouts done rows → Shows tables layouts other rows
+    → Shows parts tables layouts done rows → Shows parts tables layouts other rows
 
 abbrev pub HeldOpens : Type 0
 HeldOpens = (short tables : ℕ) (store : Store) (below above : Places) → HoldsStore short tables store below → Extends below above
     → Opens short tables above store.tables store.layouts
 
-module _ (show : OpensShow) (ask : NumbersAreAsked) (open_held : HeldOpens) (short tables next : ℕ) (places : Places) (found : Tables) (layouts : Layouts) (done : Done)
-    (rows : List Row) (opens : Opens short tables places found layouts) (shows : Shows found layouts done rows) (below : AreBelow next found layouts) where
+module _ (show : OpensShow) (ask : NumbersAreAsked) (open_held : HeldOpens) (parts : Parts) (short tables next : ℕ) (places : Places) (found : Tables) (layouts : Layouts) (done : Done)
+    (rows : List Row) (opens : Opens short tables places found layouts) (shows : Shows parts found layouts done rows) (below : AreBelow next found layouts) where
   base : Store
   base = store_found next found layouts done
 
@@ -158,12 +160,12 @@ module _ (show : OpensShow) (ask : NumbersAreAsked) (open_held : HeldOpens) (sho
   done_cut : (xn : ℕ) → xn < next → done xn ≡ (nat_lt xn next && done xn)
   done_cut xn low = ap (λ (b : Bool). b && done xn) (sym (lt-ltb xn next low))
 
-  pub found_is_base : IsBase short next rows (store_found next found layouts done)
+  pub found_is_base : IsBase parts short next rows (store_found next found layouts done)
   found_is_base = record {
     sound = all_sound short tables places (counted_tables found) layouts again;
-    shows = ask (counted_tables found) layouts done (λ xn. nat_lt xn next && done xn) rows
+    shows = ask parts (counted_tables found) layouts done (λ xn. nat_lt xn next && done xn) rows
         (λ t row used k d within. done_cut _ (counted_below t row used k d within))
-        (show short tables places found (counted_tables found) layouts layouts done rows opens again shows);
+        (show parts short tables places found (counted_tables found) layouts layouts done rows opens again shows);
     numbers = counted_below;
     ended = λ xn low. ap (λ (b : Bool). b && not (done xn)) (lt-ltb xn next low) ∙ ap not (done_cut xn low);
     later = λ xn high. record {
@@ -204,15 +206,15 @@ module _ (next first redo : ℕ) (changes : List Change) (files : Places) (found
       not_none None not = elim (not refl) [ ]
       not_none (Some x) not = refl
 
-pub life_begins : OpensShow → NumbersAreAsked → HeldOpens → (short tables next first redo : ℕ) (rows : List Row) (changes : List Change) (files : Places) (found : Tables) (layouts : Layouts)
+pub life_begins : OpensShow → NumbersAreAsked → HeldOpens → (parts : Parts) (short tables next first redo : ℕ) (rows : List Row) (changes : List Change) (files : Places) (found : Tables) (layouts : Layouts)
     (done : Done) → first ≤ redo → redo ≤ first + length changes → MayStand tables first short changes → All (λ xn. xn < next) (committed_by changes)
-    → Opens short tables (changes_over files (drop (redo - first) changes)) found layouts → Shows found layouts done rows → AreBelow next found layouts
-    → IsLife short tables next rows (life_found next first redo changes files found layouts done)
-life_begins show ask open_held short tables next first redo rows changes files found layouts done from to stand earlier opens shows below = record {
+    → Opens short tables (changes_over files (drop (redo - first) changes)) found layouts → Shows parts found layouts done rows → AreBelow next found layouts
+    → IsLife parts short tables next rows (life_found next first redo changes files found layouts done)
+life_begins show ask open_held parts short tables next first redo rows changes files found layouts done from to stand earlier opens shows below = record {
   redo_from = from;
   start_from = to;
   count = omega arith;
-  base = found_is_base show ask open_held short tables next (changes_over files (drop (redo - first) changes)) found layouts done rows opens shows below;
+  base = found_is_base show ask open_held parts short tables next (changes_over files (drop (redo - first) changes)) found layouts done rows opens shows below;
   held = found_held short tables next (changes_over files (drop (redo - first) changes)) found layouts done opens;
   read = found_is_read next first redo changes files found layouts done from to;
   follow = tt;

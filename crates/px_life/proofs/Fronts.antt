@@ -11,13 +11,15 @@ use Rattle.px_shown.specs.Shown.{Shows}
 use Rattle.px_told.specs.Writes.{rows_over}
 use Rattle.px_history.specs.Steps.{AreSteps, History, IsStep, Step, after_step, after_steps}
 use Rattle.px_history.specs.Writers.{AreAlone, IsAlone}
-use Rattle.px_history.specs.Written.{changes_of}
+use Rattle.px_history.specs.Fitting.{AreWritten, IsWritten}
+use Rattle.px_history.specs.Written.{AreChangesOf, IsChangeOf, changes_of}
+use Rattle.px_shown.specs.Parts.{Parts}
 use Rattle.px_laid.specs.Places.{Places, laid_over, none_laid}
 use Rattle.px_model.specs.declared.row.Row.{Row}
-use Rattle.px_opened.specs.Kept.{AreWritten, HoldsStore, IsWritten}
+use Rattle.px_opened.specs.Kept.{HoldsStore}
 use Rattle.px_opened.specs.Opened.{changes_over}
 use Rattle.px_life.specs.Laid.{cells_by, is_laid_by}
-use Rattle.px_life.specs.Life.{AreChangesOf, IsChangeOf, IsLife, Life, MayStand, between, committed_by, end_of, grown, places_at, store_at}
+use Rattle.px_life.specs.Life.{IsLife, Life, MayStand, between, committed_by, end_of, grown, places_at, store_at}
 
 -- ---- fronts
 
@@ -37,42 +39,42 @@ front_written tables steps zero written = tt
 front_written tables [] (suc count) written = tt
 front_written tables (step ∷ steps) (suc count) written = (written.0, front_written tables steps count written.1)
 
-front_follows : (short : ℕ) (store : Store) (steps : List Step) (count : ℕ) → AreSteps short store steps → AreSteps short store (take count steps)
-front_follows short store steps zero follow = tt
-front_follows short store [] (suc count) follow = tt
-front_follows short store (step ∷ steps) (suc count) follow = (follow.0, front_follows short (after_step store step) steps count follow.1)
+front_follows : (parts : Parts) (short : ℕ) (store : Store) (steps : List Step) (count : ℕ) → AreSteps parts short store steps → AreSteps parts short store (take count steps)
+front_follows parts short store steps zero follow = tt
+front_follows parts short store [] (suc count) follow = tt
+front_follows parts short store (step ∷ steps) (suc count) follow = (follow.0, front_follows parts short (after_step store step) steps count follow.1)
 
 -- steps keep what is held
 abbrev pub StepsHold : Type 0
-StepsHold = (short tables : ℕ) (store : Store) (steps : List Step) (places : Places) → HoldsStore short tables store places
-    → AreSteps short store steps → AreWritten tables steps
+StepsHold = (parts : Parts) (short tables : ℕ) (store : Store) (steps : List Step) (places : Places) → HoldsStore short tables store places
+    → AreSteps parts short store steps → AreWritten tables steps
     → HoldsStore short tables (after_steps store steps) (changes_over places (changes_of short store steps))
 
-pub front_held : StepsHold → (short tables next : ℕ) (rows : List Row) (life : Life) (frame : ℕ) → IsLife short tables next rows life
+pub front_held : StepsHold → (parts : Parts) (short tables next : ℕ) (rows : List Row) (life : Life) (frame : ℕ) → IsLife parts short tables next rows life
     → life.start ≤ frame → frame ≤ end_of life → HoldsStore short tables (store_at life frame) (places_at life frame)
-front_held hold short tables next rows life frame is from to =
+front_held hold parts short tables next rows life frame is from to =
     let count = frame - life.start in
     subst (λ (places : Places). HoldsStore short tables (after_steps life.base (take count life.steps)) places)
     (sym (same_over short life.base life.steps (drop (life.start - life.first) life.changes) count life.below is.are))
-    (hold short tables life.base (take count life.steps) life.below is.held (front_follows short life.base life.steps count is.follow) (front_written tables life.steps count is.written))
+    (hold parts short tables life.base (take count life.steps) life.below is.held (front_follows parts short life.base life.steps count is.follow) (front_written tables life.steps count is.written))
 
 -- what a history shows
 abbrev pub HistoriesShow : Type 0
-HistoriesShow = (short next : ℕ) (rows : List Row) (base store : Store) (steps : List Step) → IsBase short next rows base
-    → History short base steps store → Shows store.tables store.layouts store.done (rows_over rows (told_by steps))
+HistoriesShow = (parts : Parts) (short next : ℕ) (rows : List Row) (base store : Store) (steps : List Step) → IsBase parts short next rows base
+    → History parts short base steps store → Shows parts store.tables store.layouts store.done (rows_over rows (told_by parts steps))
 
-pub front_shows : HistoriesShow → (short tables next : ℕ) (rows : List Row) (life : Life) (frame : ℕ) → IsLife short tables next rows life
-    → Shows (store_at life frame).tables (store_at life frame).layouts (store_at life frame).done (rows_over rows (told_by (take (frame - life.start) life.steps)))
-front_shows show short tables next rows life frame is =
-    show short next rows life.base (store_at life frame) (take (frame - life.start) life.steps) is.base
-    (record { follow = front_follows short life.base life.steps (frame - life.start) is.follow; lead = refl })
+pub front_shows : HistoriesShow → (parts : Parts) (short tables next : ℕ) (rows : List Row) (life : Life) (frame : ℕ) → IsLife parts short tables next rows life
+    → Shows parts (store_at life frame).tables (store_at life frame).layouts (store_at life frame).done (rows_over rows (told_by parts (take (frame - life.start) life.steps)))
+front_shows show parts short tables next rows life frame is =
+    show parts short next rows life.base (store_at life frame) (take (frame - life.start) life.steps) is.base
+    (record { follow = front_follows parts short life.base life.steps (frame - life.start) is.follow; lead = refl })
 
 -- ---- one frame more
 
-follow_more : (short : ℕ) (store : Store) (steps : List Step) (step : Step) → AreSteps short store steps → IsStep short (after_steps store steps) step
-    → AreSteps short store (steps ++ step ∷ [])
-follow_more short store [] step follow may = (may, tt)
-follow_more short store (first ∷ steps) step follow may = (follow.0, follow_more short (after_step store first) steps step follow.1 may)
+follow_more : (parts : Parts) (short : ℕ) (store : Store) (steps : List Step) (step : Step) → AreSteps parts short store steps → IsStep parts short (after_steps store steps) step
+    → AreSteps parts short store (steps ++ step ∷ [])
+follow_more parts short store [] step follow may = (may, tt)
+follow_more parts short store (first ∷ steps) step follow may = (follow.0, follow_more parts short (after_step store first) steps step follow.1 may)
 
 alone_more : (store : Store) (steps : List Step) (step : Step) → AreAlone store steps → IsAlone (after_steps store steps) step → AreAlone store (steps ++ step ∷ [])
 alone_more store [] step alone one = (one, tt)
@@ -113,10 +115,10 @@ stand_drop tables number short (suc count) (change ∷ changes) within all =
     let left : count ≤ length changes = omega (arith, within) in
     subst (λ (n : ℕ). MayStand tables n short (drop count changes)) same (stand_drop tables (number + 1) short count changes left all.1)
 
-pub life_grows : (short tables next : ℕ) (rows : List Row) (life : Life) (step : Step) (change : Change) → IsLife short tables next rows life
-    → IsStep short (store_at life (end_of life)) step → IsAlone (store_at life (end_of life)) step → IsWritten tables step
-    → IsChangeOf short (store_at life (end_of life)) step change → may_hold tables (end_of life) short change ≡ true → IsLife short tables next rows (grown life step change)
-life_grows short tables next rows life step change is may alone written of stands = record {
+pub life_grows : (parts : Parts) (short tables next : ℕ) (rows : List Row) (life : Life) (step : Step) (change : Change) → IsLife parts short tables next rows life
+    → IsStep parts short (store_at life (end_of life)) step → IsAlone (store_at life (end_of life)) step → IsWritten tables step
+    → IsChangeOf short (store_at life (end_of life)) step change → may_hold tables (end_of life) short change ≡ true → IsLife parts short tables next rows (grown life step change)
+life_grows parts short tables next rows life step change is may alone written of stands = record {
   redo_from = is.redo_from;
   start_from = is.start_from;
   count = omega (arith, is.count, length-append life.steps (step ∷ []), length-append life.changes (change ∷ []));
@@ -128,7 +130,7 @@ life_grows short tables next rows life step change is may alone written of stand
         (is.read.each what table number bytes below (subst (λ (changes : List Change). is_laid_by (cells_by changes) what table number ≡ true) same_read laid));
     headers = λ table laid. is.read.headers table (subst (λ (changes : List Change). is_laid_by (cells_by changes) kinds.Header table 0 ≡ true) same_read laid);
   };
-  follow = follow_more short life.base life.steps step is.follow (subst (λ (s : Store). IsStep short s step) whole may);
+  follow = follow_more parts short life.base life.steps step is.follow (subst (λ (s : Store). IsStep parts short s step) whole may);
   alone = alone_more life.base life.steps step is.alone (subst (λ (s : Store). IsAlone s step) whole alone);
   written = written_more tables life.steps step is.written written;
   earlier = subst (λ (changes : List Change). All (λ xn. xn < next) (committed_by changes)) (sym (take-append-le (life.start - life.first) life.changes (change ∷ []) within)) is.earlier;

@@ -1,42 +1,23 @@
 -- The frames of a store since it was opened, as steps from what the opening found.
-use Rattle.std.specs.Prelude.{◌≡◌, ◌⊎◌, ℕ, ◌+◌, ◌-◌, ◌≤◌, ◌<◌, List, [], ◌∷◌, ◌++◌, All, length, take, drop, Some, IsSome, true}
+use Rattle.std.specs.Prelude.{◌≡◌, ℕ, ◌+◌, ◌-◌, ◌≤◌, ◌<◌, List, [], ◌∷◌, ◌++◌, All, length, take, drop, Some, IsSome, true}
 use Rattle.px_model.specs.declared.row.Row.{Row}
 use Rattle.px_change.specs.declared.change.Change.{Change}
 use Rattle.px_change.specs.Grammar.{may_hold}
 use Rattle.px_change.specs.declared.change.ChangeKind.{ChangeKind}
 use Rattle.px_change.specs.declared.change.ChangeKind.TheVariants as kind
 use Rattle.px_history.specs.Base.{IsBase}
-use Rattle.px_history.specs.Steps.{AreSteps, Step, after_step, after_steps}
+use Rattle.px_history.specs.Steps.{AreSteps, Step, after_steps}
 use Rattle.px_history.specs.Store.{Store}
 use Rattle.px_history.specs.Writers.{AreAlone}
-use Rattle.px_history.specs.Written.{change_of}
+use Rattle.px_history.specs.Fitting.{AreWritten}
+use Rattle.px_history.specs.Written.{AreChangesOf}
+use Rattle.px_shown.specs.Parts.{Parts}
 use Rattle.px_cells.specs.declared.cell.CellKind.{CellKind}
 use Rattle.px_cells.specs.declared.cell.CellKind.TheVariants as kinds
 use Rattle.px_laid.specs.Places.{Places, none_laid}
-use Rattle.px_opened.specs.Kept.{AreWritten, HoldsStore}
+use Rattle.px_opened.specs.Kept.{HoldsStore}
 use Rattle.px_opened.specs.Opened.{changes_over}
 use Rattle.px_life.specs.Laid.{cells_by, is_laid_by}
-
--- ---- the change of a step
-
--- an unlink stands in the log as the opening's or as the sweeper's, who names the write that it swept
-abbrev pub IsMarkOf : Step → (short : ℕ) → Store → Change → Type 0
-IsMarkOf (Step.put t header slot) short store change = change ≡ change_of short store (Step.put t header slot)
-IsMarkOf (Step.commit xn number) short store change = change ≡ change_of short store (Step.commit xn number)
-IsMarkOf (Step.rollback xn) short store change = change ≡ change_of short store (Step.rollback xn)
-IsMarkOf (Step.unlink t row from count) short store change = (change.kind ≡ kind.Tidy) ⊎ (change.kind ≡ kind.Sweep)
-
-pub record IsChangeOf (short : ℕ) (store : Store) (step : Step) (change : Change) : Type 0 where
-  pub mark : IsMarkOf step short store change
-  pub cells : change.cells ≡ (change_of short store step).cells
-  pub commit : change.commit ≡ (change_of short store step).commit
-
-abbrev pub AreChangesOf : (short : ℕ) → Store → List Step → List Change → Type 0
-AreChangesOf short store [] [] = Unit {0}
-AreChangesOf short store [] (change ∷ changes) = ⊥
-AreChangesOf short store (step ∷ steps) [] = ⊥
-AreChangesOf short store (step ∷ steps) (change ∷ changes) =
-    IsChangeOf short store step change × AreChangesOf short (after_step store step) steps changes
 
 -- ---- the log
 
@@ -95,16 +76,16 @@ pub record AreRead (life : Life) : Type 0 where
   pub headers : (table : ℕ) → is_laid_by (cells_by (between life life.redo life.start)) kinds.Header table 0 ≡ true
       → IsSome (life.below kinds.Header table 0)
 
--- In a store with that short length and so many tables: the opening found a base with these rows, and each change since then
+-- In a store with that short length and so many tables, over these data logs: the opening found a base with these rows, and each change since then
 -- is that of a step that may follow, in rows with one writer at a time.
-pub record IsLife (short tables next : ℕ) (rows : List Row) (life : Life) : Type 0 where
+pub record IsLife (parts : Parts) (short tables next : ℕ) (rows : List Row) (life : Life) : Type 0 where
   pub redo_from : life.first ≤ life.redo
   pub start_from : life.redo ≤ life.start
   pub count : life.start + length life.steps ≡ end_of life
-  pub base : IsBase short next rows life.base
+  pub base : IsBase parts short next rows life.base
   pub held : HoldsStore short tables life.base life.below
   pub read : AreRead life
-  pub follow : AreSteps short life.base life.steps
+  pub follow : AreSteps parts short life.base life.steps
   pub alone : AreAlone life.base life.steps
   pub written : AreWritten tables life.steps
   -- what the opening read has the Commits of lower numbers alone

@@ -1,21 +1,24 @@
 ghost use Rattle.std.specs.Prelude.{◌≡◌, ◌<◌, ◌≤◌, ◌+◌, ◌-◌, [], ℕ, All, List, drop, length, take, true};
 ghost use Rattle.px_change.specs.Grammar.{may_hold};
 ghost use Rattle.px_change.specs.declared.change.Change.{Change};
+ghost use Rattle.px_history.specs.Fitting.{IsWritten};
+ghost use Rattle.px_history.specs.Written.{IsChangeOf};
 ghost use Rattle.px_history.specs.Steps.{IsStep, Step};
 ghost use Rattle.px_history.specs.Store.{Store};
 ghost use Rattle.px_history.specs.Told.{told_by};
 ghost use Rattle.px_history.specs.Writers.{IsAlone};
 ghost use Rattle.px_laid.specs.Places.{Places};
 ghost use Rattle.px_model.specs.declared.row.Row.{Row};
-ghost use Rattle.px_opened.specs.Kept.{HoldsStore, IsWritten};
+ghost use Rattle.px_opened.specs.Kept.{HoldsStore};
 ghost use Rattle.px_opened.specs.Opened.{Opens, changes_over};
+ghost use Rattle.px_shown.specs.Parts.{Parts};
 ghost use Rattle.px_shown.specs.Shown.{Done, Shows};
 ghost use Rattle.px_shown.specs.Tables.{Layouts, Tables};
 ghost use Rattle.px_told.specs.Writes.{rows_over};
 ghost use Rattle.px_life.specs.Example.{new_life};
 ghost use Rattle.px_life.specs.Extends.{Extends};
 ghost use Rattle.px_life.specs.Found.{AreBelow, life_found};
-ghost use Rattle.px_life.specs.Life.{IsChangeOf, IsLife, Life, MayStand, committed_by, end_of, grown, places_at, store_at};
+ghost use Rattle.px_life.specs.Life.{IsLife, Life, MayStand, committed_by, end_of, grown, places_at, store_at};
 
 use px_history::a_history_shows_what_it_tells;
 use px_opened::{a_step_keeps_what_is_held, what_opens_is_one};
@@ -29,7 +32,7 @@ pub fn more_places_open_to_the_same()
 
 /// Each front of a life is a store, at its own places.
 pub fn fronts_hold()
-    ensures { (short tables next : ℕ) (rows : List Row) (life : Life) (frame : ℕ) → IsLife short tables next rows life
+    ensures { (parts : Parts) (short tables next : ℕ) (rows : List Row) (life : Life) (frame : ℕ) → IsLife parts short tables next rows life
         → life.start ≤ frame → frame ≤ end_of life → HoldsStore short tables (store_at life frame) (places_at life frame) }
 {
     a_step_keeps_what_is_held();
@@ -37,34 +40,34 @@ pub fn fronts_hold()
 
 /// Each front of a life shows the rows after what its frames tell, over those that the opening found.
 pub fn a_front_shows()
-    ensures { (short tables next : ℕ) (rows : List Row) (life : Life) (frame : ℕ) → IsLife short tables next rows life
+    ensures { (parts : Parts) (short tables next : ℕ) (rows : List Row) (life : Life) (frame : ℕ) → IsLife parts short tables next rows life
         → let store = store_at life frame in
-        Shows store.tables store.layouts store.done (rows_over rows (told_by (take (frame - life.start) life.steps))) }
+        Shows parts store.tables store.layouts store.done (rows_over rows (told_by parts (take (frame - life.start) life.steps))) }
 {
     a_history_shows_what_it_tells();
 }
 
 /// A life goes on with a step that may follow.
 pub fn a_life_grows()
-    ensures { (short tables next : ℕ) (rows : List Row) (life : Life) (step : Step) (change : Change) → IsLife short tables next rows life
+    ensures { (parts : Parts) (short tables next : ℕ) (rows : List Row) (life : Life) (step : Step) (change : Change) → IsLife parts short tables next rows life
         → let store = store_at life (end_of life) in
-        IsStep short store step → IsAlone store step → IsWritten tables step → IsChangeOf short store step change
-        → may_hold tables (end_of life) short change ≡ true → IsLife short tables next rows (grown life step change) }
+        IsStep parts short store step → IsAlone store step → IsWritten tables step → IsChangeOf short store step change
+        → may_hold tables (end_of life) short change ≡ true → IsLife parts short tables next rows (grown life step change) }
 {}
 
 /// A store that was just made is a life without steps.
 pub fn a_new_store_is_a_life()
-    ensures { (short tables : ℕ) → IsLife short tables 1 [] new_life }
+    ensures { (parts : Parts) (short tables : ℕ) → IsLife parts short tables 1 [] new_life }
 {}
 
 /// What an opening found is a life without steps: the changes that it read from a restart's first frame on, the tables that these from
 /// the frame `redo` on open to over the cells of the files, and who is done. Its own cells are those that the headers count; what else
 /// lies in the files is no part of it.
 pub fn a_life_begins()
-    ensures { (short tables next first redo : ℕ) (rows : List Row) (changes : List Change) (files : Places) (found : Tables) (layouts : Layouts) (done : Done)
+    ensures { (parts : Parts) (short tables next first redo : ℕ) (rows : List Row) (changes : List Change) (files : Places) (found : Tables) (layouts : Layouts) (done : Done)
         → first ≤ redo → redo ≤ first + length changes → MayStand tables first short changes → All (λ xn. xn < next) (committed_by changes)
-        → Opens short tables (changes_over files (drop (redo - first) changes)) found layouts → Shows found layouts done rows
-        → AreBelow next found layouts → IsLife short tables next rows (life_found next first redo changes files found layouts done) }
+        → Opens short tables (changes_over files (drop (redo - first) changes)) found layouts → Shows parts found layouts done rows
+        → AreBelow next found layouts → IsLife parts short tables next rows (life_found next first redo changes files found layouts done) }
 {
     what_opens_is_one();
     only_numbers_in_chains_are_asked();
