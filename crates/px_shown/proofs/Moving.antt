@@ -8,7 +8,8 @@ use Rattle.px_cells.specs.declared.slot.Slot.{Slot}
 use Rattle.px_cells.specs.declared.slot.SlotState.{SlotState}
 use Rattle.px_cells.specs.declared.slot.SlotState.TheVariants as state
 use Rattle.px_cells.specs.Form.{is_slot}
-use Rattle.px_chain.specs.Sound.{IsSound, IsUsedRow, head_of, key_of}
+use Rattle.px_chain.specs.Links.{IsStored}
+use Rattle.px_chain.specs.Sound.{IsSound, IsUsedRow, Layout, head_of, key_of}
 use Rattle.px_chain.specs.Table.{Table, laid}
 use Rattle.px_chain.proofs.SoundLaws.{sound_alike}
 use Rattle.px_model.specs.declared.row.Row.{Row}
@@ -221,20 +222,24 @@ move_written parts short tables layouts xn writes t number log place may wrote =
 
 -- ---- sound cells
 
+-- one table, whose slot is in the form with its new reference
+pub one_moved : (short : ℕ) (table : Table) (layout : Layout) (number log place : ℕ) → IsStored short (moved_slot (table.slot number) log place) → IsSound short table layout
+    → IsSound short (laid table (move_cells table number log place)) layout
+one_moved short table layout number log place stored sound =
+    let other = laid table (move_cells table number log place) in
+    sound_alike short table other layout sound (record {
+      header = refl;
+      states = λ n in'. slot_after (λ (slot : Slot). slot.state ≡ (table.slot n).state) table number log place n refl (λ its. refl);
+      nexts = λ n in'. slot_after (λ (slot : Slot). slot.next ≡ (table.slot n).next) table number log place n refl (λ its. refl);
+      its_rows = λ n in'. slot_after (λ (slot : Slot). slot.row ≡ (table.slot n).row) table number log place n refl (λ its. refl);
+      its_keys = λ n in'. slot_after (λ (slot : Slot). slot.key ≡ (table.slot n).key) table number log place n refl (λ its. refl);
+      form = λ n in'. slot_after (λ (slot : Slot). IsTrue (is_slot short slot)) table number log place n (sound.form n in')
+          (λ its. subst (λ (m : ℕ). IsTrue (is_slot short (moved_slot (table.slot m) log place))) (sym its) stored.form);
+      pointers = λ row in'. refl;
+    })
+
 pub move_sound : (parts : Parts) (short : ℕ) (tables : Tables) (layouts : Layouts) (t number log place : ℕ) → MayMove parts short tables layouts t number log place
     → AreSound short tables layouts → AreSound short (with_move tables t number log place) layouts
 move_sound parts short tables layouts t number log place may sound n =
     after_move (λ (table : Table). IsSound short table (layouts n)) tables t number log place n (sound n) (λ here.
-    let table = tables n in
-    let other = laid table (move_cells table number log place) in
-    sound_alike short table other (layouts n) (sound n) (record {
-      header = refl;
-      states = λ m in'. slot_after (λ (slot : Slot). slot.state ≡ (table.slot m).state) table number log place m refl (λ its. refl);
-      nexts = λ m in'. slot_after (λ (slot : Slot). slot.next ≡ (table.slot m).next) table number log place m refl (λ its. refl);
-      its_rows = λ m in'. slot_after (λ (slot : Slot). slot.row ≡ (table.slot m).row) table number log place m refl (λ its. refl);
-      its_keys = λ m in'. slot_after (λ (slot : Slot). slot.key ≡ (table.slot m).key) table number log place m refl (λ its. refl);
-      form = λ m in'. slot_after (λ (slot : Slot). IsTrue (is_slot short slot)) table number log place m ((sound n).form m in') (λ its.
-          subst (λ (p : ℕ). IsTrue (is_slot short (moved_slot ((tables p).slot m) log place))) (sym here)
-          (subst (λ (q : ℕ). IsTrue (is_slot short (moved_slot ((tables t).slot q) log place))) (sym its) may.stored.form));
-      pointers = λ row in'. refl;
-    }))
+    one_moved short (tables n) (layouts n) number log place (subst (λ (m : ℕ). IsStored short (moved_slot ((tables m).slot number) log place)) (sym here) may.stored) (sound n))
