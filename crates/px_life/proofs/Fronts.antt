@@ -12,9 +12,9 @@ use Rattle.px_told.specs.Writes.{rows_over}
 use Rattle.px_history.specs.Steps.{AreSteps, History, IsStep, Step, after_step, after_steps}
 use Rattle.px_history.specs.Writers.{AreAlone, IsAlone}
 use Rattle.px_history.specs.Fitting.{AreWritten, IsWritten}
-use Rattle.px_history.specs.Written.{AreChangesOf, IsChangeOf, changes_of}
+use Rattle.px_history.specs.Written.{AreChangesOf, IsChangeOf}
 use Rattle.px_shown.specs.Parts.{Parts}
-use Rattle.px_laid.specs.Places.{Places, laid_over, none_laid}
+use Rattle.px_laid.specs.Places.{Places, none_laid}
 use Rattle.px_model.specs.declared.row.Row.{Row}
 use Rattle.px_opened.specs.Kept.{HoldsStore}
 use Rattle.px_opened.specs.Opened.{changes_over}
@@ -23,16 +23,13 @@ use Rattle.px_life.specs.Life.{IsLife, Life, MayStand, between, committed_by, en
 
 -- ---- fronts
 
--- the cells of changes are those of the steps
-same_over : (short : ℕ) (store : Store) (steps : List Step) (changes : List Change) (count : ℕ) (below : Places) → AreChangesOf short store steps changes
-    → changes_over below (take count changes) ≡ changes_over below (changes_of short store (take count steps))
-same_over short store steps changes zero below are = refl
-same_over short store [] [] (suc count) below are = refl
-same_over short store [] (change ∷ changes) (suc count) below are = elim are [ ]
-same_over short store (step ∷ steps) [] (suc count) below are = elim are [ ]
-same_over short store (step ∷ steps) (change ∷ changes) (suc count) below are =
-    same_over short (after_step store step) steps changes count (laid_over below change.cells) are.1
-    ∙ ap (λ cells. changes_over (laid_over below cells) (changes_of short (after_step store step) (take count steps))) are.0.cells
+front_changes : (short : ℕ) (store : Store) (steps : List Step) (changes : List Change) (count : ℕ) → AreChangesOf short store steps changes
+    → AreChangesOf short store (take count steps) (take count changes)
+front_changes short store steps changes zero are = tt
+front_changes short store [] [] (suc count) are = tt
+front_changes short store [] (change ∷ changes) (suc count) are = elim are [ ]
+front_changes short store (step ∷ steps) [] (suc count) are = elim are [ ]
+front_changes short store (step ∷ steps) (change ∷ changes) (suc count) are = (are.0, front_changes short (after_step store step) steps changes count are.1)
 
 front_written : (tables : ℕ) (steps : List Step) (count : ℕ) → AreWritten tables steps → AreWritten tables (take count steps)
 front_written tables steps zero written = tt
@@ -46,17 +43,17 @@ front_follows parts short store (step ∷ steps) (suc count) follow = (follow.0,
 
 -- steps keep what is held
 abbrev pub StepsHold : Type 0
-StepsHold = (parts : Parts) (short tables : ℕ) (store : Store) (steps : List Step) (places : Places) → HoldsStore short tables store places
-    → AreSteps parts short store steps → AreWritten tables steps
-    → HoldsStore short tables (after_steps store steps) (changes_over places (changes_of short store steps))
+StepsHold = (parts : Parts) (short tables : ℕ) (store : Store) (steps : List Step) (changes : List Change) (places : Places) → HoldsStore short tables store places
+    → AreSteps parts short store steps → AreWritten tables steps → AreChangesOf short store steps changes
+    → HoldsStore short tables (after_steps store steps) (changes_over places changes)
 
 pub front_held : StepsHold → (parts : Parts) (short tables next : ℕ) (rows : List Row) (life : Life) (frame : ℕ) → IsLife parts short tables next rows life
     → life.start ≤ frame → frame ≤ end_of life → HoldsStore short tables (store_at life frame) (places_at life frame)
 front_held hold parts short tables next rows life frame is from to =
     let count = frame - life.start in
-    subst (λ (places : Places). HoldsStore short tables (after_steps life.base (take count life.steps)) places)
-    (sym (same_over short life.base life.steps (drop (life.start - life.first) life.changes) count life.below is.are))
-    (hold parts short tables life.base (take count life.steps) life.below is.held (front_follows parts short life.base life.steps count is.follow) (front_written tables life.steps count is.written))
+    hold parts short tables life.base (take count life.steps) (take count (drop (life.start - life.first) life.changes)) life.below is.held
+    (front_follows parts short life.base life.steps count is.follow) (front_written tables life.steps count is.written)
+    (front_changes short life.base life.steps (drop (life.start - life.first) life.changes) count is.are)
 
 -- what a history shows
 abbrev pub HistoriesShow : Type 0
