@@ -14,11 +14,11 @@ use Rattle.px_told.specs.declared.change.Change.TheVariants.{Commit as CommitCha
 use Rattle.px_xlog.specs.Log.{Log, HasFirst, IsLogOf, full_at, with_frame}
 use Rattle.px_told.specs.Changes.{is_end}
 use Rattle.px_xlog.specs.Payload.{may_hold}
-use Rattle.px_xlog.specs.Reading.{the_log}
+use Rattle.px_xlog.specs.Contents.{the_log}
 use Rattle.px_logged.specs.Fitting.{Fits, tag_of}
 use Rattle.px_logged.specs.Logged.{logged}
-use Rattle.px_stored.specs.Stored.{Stored, ReadsImages}
-use Rattle.px_stored.proofs.Calls.{stored_still, appending_stands, stored_appended, both_moments, commit_stands, stored_committed}
+use Rattle.px_standing.specs.Stored.{Stored, ReadsImages}
+use Rattle.px_standing.proofs.Calls.{stored_still, appending_stands, stored_appended, both_moments, commit_stands, stored_committed}
 use Rattle.px_core.specs.Appending.{Appends, AppendFails, Flushes, FlushFails, HasAppendCause, LeavesFronts}
 use Rattle.px_core.specs.Core.{Kept, AsBefore, Breaks, Leaves, HasCallCause, UnlessEnd}
 use Rattle.px_core.specs.Serving.{Answers, Refuses, StandsWithin}
@@ -28,8 +28,8 @@ use Rattle.px_core.specs.declared.error.CoreError.TheVariants.{OutOfMemory, Faul
 
 -- an error is passed on
 pub if_err : {T E : Type 0} (r : Result T E) (P Q : E → Type 0) → IsErrAnd r Q → ((error : E) → Q error → P error) → IfErr r P
-if_err {T} {E} (Ok x) P Q is says = tt
-if_err {T} {E} (Err error) P Q is says = says error is
+if_err {T} {E} (Ok x) P Q is finds = tt
+if_err {T} {E} (Err error) P Q is finds = finds error is
 
 -- ---- nothing is added
 
@@ -64,7 +64,7 @@ from_old {W} tells state session call change old mid new one t changes is =
 pub stands_adding : {W : Type 0} (tells : Type 0) (state : W → State) (session : ℕ) (call : Call) (change : Change) (old mid new : Kept W) → call ≢ Commit → Adds tells state session call change old mid new → tells
     → StandsWithin state session call old new
 stands_adding {W} tells state session call change old mid new other one t restart changes stored =
-    appending_stands restart changes old.log old.machine (state_after old.machine session call) session call change other one.adds one.may stored (from_old tells state session call change old mid new one t changes stored.log)
+    appending_stands restart changes old.log old.machine session call change other one.adds one.may stored (from_old tells state session call change old mid new one t changes stored.log)
 
 pub answers_adding : {W : Type 0} (tells : Type 0) (state : W → State) (session : ℕ) (call : Call) (change : Change) (old mid new : Kept W) (reply : Reply) → call ≢ Commit → Adds tells state session call change old mid new
     → Appends tells state change mid new → mid.error ≡ old.error → (next : Machine) → next ≡ state_after old.machine session call → new.log.frames ≤ 2 ^ 48

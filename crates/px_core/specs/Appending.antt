@@ -11,7 +11,7 @@ use Rattle.px_told.specs.declared.change.Change.TheVariants.{Put}
 use Rattle.px_xlog.specs.Log.{Log, HasFirst, IsLogOf, full_at, with_frame}
 use Rattle.px_told.specs.Changes.{is_end}
 use Rattle.px_xlog.specs.Payload.{may_hold}
-use Rattle.px_xlog.specs.Reading.{the_log}
+use Rattle.px_xlog.specs.Contents.{the_log}
 use Rattle.px_site.specs.declared.error.SiteError.TheVariants.{OutOfMemory as SiteShort, Fault as SiteFault}
 use Rattle.px_core.specs.Core.{Kept, Breaks, Leaves}
 use Rattle.px_core.specs.declared.error.CoreError.{CoreError}

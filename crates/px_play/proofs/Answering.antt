@@ -21,8 +21,9 @@ use Rattle.px_calls.specs.Texts.{reply_text}
 use Rattle.px_told.specs.declared.change.Change.{Change}
 use Rattle.px_xlog.specs.Log.{Log, full_at, most_frames}
 use Rattle.px_logged.specs.Logged.{put_of, end_of, logged_when_done, logged}
-use Rattle.px_stored.specs.Stored.{Stored, StandsForEither}
-use Rattle.px_stored.proofs.Standing.{last_moment}
+use Rattle.px_standing.specs.Stored.{Stored}
+use Rattle.px_standing.specs.Images.{StandsBetween}
+use Rattle.px_standing.proofs.Standing.{last_moment}
 use Rattle.px_core.specs.declared.error.CoreError.{CoreError}
 use Rattle.px_core.specs.declared.error.CoreError.TheVariants.{OutOfMemory as CoreShort, Fault as FaultOf, Damaged as DamagedAt, LogFull as FullAt, Broken}
 use Rattle.px_core.specs.Core.{Kept}
@@ -89,8 +90,8 @@ numbered log changes added count few room = by_room (ltb log.frames most_frames)
 -- ---- the call was answered
 
 -- what was told is as it was
-told_still : {m next : Machine} {a b : State} → EachMoment (StandsForEither m next a.now) a b → b.now.told ≡ a.now.told
-told_still {m} {next} {a} {b} moments =
+told_still : {least most : ℕ} {m : Machine} {a b : State} → EachMoment (StandsBetween least most m a.now) a b → b.now.told ≡ a.now.told
+told_still {least} {most} {m} {a} {b} moments =
     elim (last_moment moments) [
       | inl same ↦ ap (λ (moment : Moment). moment.told) same
       | inr stands ↦ stands.told

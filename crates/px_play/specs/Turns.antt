@@ -16,7 +16,7 @@ use Rattle.px_script.specs.Grammar.{command_line}
 use Rattle.px_told.specs.declared.change.Change.{Change}
 use Rattle.px_xlog.specs.Log.{most_frames}
 use Rattle.px_logged.specs.Logged.{logged}
-use Rattle.px_stored.specs.Stored.{Stored}
+use Rattle.px_standing.specs.Stored.{Stored}
 use Rattle.px_core.specs.Core.{Kept}
 use Rattle.px_core.specs.declared.error.CoreError.{CoreError}
 use Rattle.px_core.specs.declared.error.CoreError.TheVariants.{OutOfMemory as CoreShort, Fault as FaultOf, Damaged as DamagedAt, LogFull as FullAt, Broken}

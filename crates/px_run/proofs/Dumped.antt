@@ -8,7 +8,8 @@ use Rattle.px_calls.specs.declared.status.Status.{Status}
 use Rattle.px_calls.specs.declared.status.Status.TheVariants.{Done, DiskFault, OutOfMemory}
 use Rattle.px_told.specs.declared.change.Change.{Change}
 use Rattle.px_told.specs.Writes.{rows_in}
-use Rattle.px_xlog.specs.Images.{ImagesStandFor, IsSettledStore, KeepsStanding}
+use Rattle.px_standing.specs.Images.{ImagesStandFor, KeepsStanding}
+use Rattle.px_standing.specs.Settled.{IsSettledStore}
 use Rattle.px_recovery.specs.declared.error.OpenError.{OpenError}
 use Rattle.px_recovery.specs.declared.error.OpenError.TheVariants.{OutOfMemory as OpenShort, Fault as OpenFault, NoStore as NoneThere, Damaged as BadPlace, LogFull as LogAtEnd}
 use Rattle.px_recovery.specs.Errors.{HasRefusal}

@@ -11,14 +11,14 @@ use Rattle.px_calls.specs.declared.status.Status.{Status}
 use Rattle.px_calls.specs.declared.status.Status.TheVariants.{Done, BadLine, DiskFault, SourceFault, OutputFault, OutOfMemory, LogFull, TooLong}
 use Rattle.px_calls.specs.Texts.{opened_line}
 use Rattle.px_told.specs.declared.change.Change.{Change}
-use Rattle.px_xlog.specs.Reading.{StandsFor}
+use Rattle.px_standing.specs.Standing.{StandsFor}
 use Rattle.px_told.specs.Commits.{commits_in}
 use Rattle.px_told.specs.Writes.{rows_in}
-use Rattle.px_xlog.specs.Images.{KeepsStanding}
+use Rattle.px_standing.specs.Images.{KeepsStanding}
 use Rattle.px_xlog.specs.Log.{Log, most_frames}
 use Rattle.px_logged.specs.Logged.{logged_by_all}
 use Rattle.px_logged.specs.Recounting.{rows_now}
-use Rattle.px_stored.specs.Stored.{ReadsImages, Stored}
+use Rattle.px_standing.specs.Stored.{ReadsImages, Stored}
 use Rattle.px_core.specs.Core.{Kept}
 use Rattle.px_recovery.specs.declared.opening.OpenReport.{OpenReport}
 use Rattle.px_recovery.specs.declared.error.OpenError.{OpenError}

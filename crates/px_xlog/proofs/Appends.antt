@@ -9,7 +9,7 @@ use Rattle.px_frame.specs.Frame.{frame}
 use Rattle.px_scan.specs.Scan.{CanFrames}
 use Rattle.px_told.specs.declared.change.Change.{Change}
 use Rattle.px_xlog.specs.Payload.{change_text, may_hold, may_hold_all}
-use Rattle.px_xlog.specs.Reading.{the_log, log_text}
+use Rattle.px_xlog.specs.Contents.{the_log, log_text}
 use Rattle.px_xlog.specs.Log.{Log, grown_file, with_frame, IsLogOf, HasFirst}
 use Rattle.px_xlog.proofs.Appending.{grown_more, grown_all, first_survive, first_of_fewer}
 use Rattle.px_xlog.proofs.FramesOfChanges.{can_frames, hold_more, log_more, longest_frame}

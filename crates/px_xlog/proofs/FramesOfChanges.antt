@@ -11,7 +11,7 @@ use Rattle.px_model.specs.declared.write.Write.TheVariants.{Put as PutRow, Delet
 use Rattle.px_told.specs.declared.change.Change.{Change}
 use Rattle.px_told.specs.declared.change.Change.TheVariants.{Put, Commit, Rollback}
 use Rattle.px_xlog.specs.Payload.{write_text, change_text, is_stored, is_place, is_write, is_change, is_within, may_hold, may_hold_all, longest_key_and_body}
-use Rattle.px_xlog.specs.Reading.{log_text}
+use Rattle.px_xlog.specs.Contents.{log_text}
 use Rattle.px_xlog.proofs.Payloads.{length-head}
 use Rattle.px_xlog.proofs.Writes.{length-cells}
 

@@ -8,7 +8,7 @@ use Rattle.std.proofs.lemmas.List.{drop_at}
 use Rattle.px_scan.proofs.Scans.{is_scan, frames_of-step}
 use Rattle.px_told.specs.declared.change.Change.{Change}
 use Rattle.px_xlog.specs.Payload.{change_text, may_hold, may_hold_all}
-use Rattle.px_xlog.specs.Reading.{log_text, HoldsNone}
+use Rattle.px_xlog.specs.Contents.{log_text, HoldsNone}
 use Rattle.px_xlog.specs.Scanning.{IsForeign, IsNext, HasForeign, FindsForeign, FindsDamage, ScansTo}
 use Rattle.px_xlog.specs.declared.error.LogError.{LogError}
 use Rattle.px_xlog.specs.declared.error.LogError.TheVariants.{OutOfMemory, Fault as FaultOf, Damaged, LogFull}

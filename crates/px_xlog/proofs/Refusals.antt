@@ -7,7 +7,7 @@ use Rattle.px_xlog.specs.declared.error.LogError.{LogError}
 use Rattle.px_xlog.specs.declared.error.LogError.TheVariants.{OutOfMemory, Fault as FaultOf, Damaged, LogFull}
 use Rattle.px_xlog.specs.Errors.{LeavesSite}
 use Rattle.px_xlog.specs.Payload.{may_hold_all}
-use Rattle.px_xlog.specs.Reading.{StopsShort}
+use Rattle.px_xlog.specs.Contents.{StopsShort}
 use Rattle.px_xlog.specs.Scanning.{ScansTo}
 
 pub leaves_same : {before now : State} (old new : Counts) (error : LogError) → now ≡ before → LeavesSite before now old new error

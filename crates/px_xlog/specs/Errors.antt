@@ -1,5 +1,5 @@
 -- What errors of the log say, and what they leave.
-use Rattle.std.specs.Prelude.{◌≡◌, ◌≢◌, ◌⊎◌, Some}
+use Rattle.std.specs.Prelude.{◌≡◌, ◌≢◌, ◌⊎◌, ℕ, List, Some}
 use Rattle.px_site.specs.Cause.{Counts, Rose}
 use Rattle.px_site.specs.State.{State}
 use Rattle.px_site.specs.declared.error.Fault.{Fault}
@@ -10,7 +10,7 @@ use Rattle.px_restart.specs.declared.restart.Restart.{Restart}
 use Rattle.px_xlog.specs.declared.error.LogError.{LogError}
 use Rattle.px_xlog.specs.declared.error.LogError.TheVariants.{OutOfMemory, Fault as FaultOf, Damaged, LogFull}
 use Rattle.px_xlog.specs.Log.{Log, full_at}
-use Rattle.px_xlog.specs.Reading.{Files, the_log, IsDamage}
+use Rattle.px_xlog.specs.Contents.{the_log, IsDamage}
 
 abbrev pub of_site : SiteError → LogError
 of_site Short = OutOfMemory
@@ -30,12 +30,12 @@ HasLogCause log old new (FaultOf fault) = Rose (old.faults fault) (new.faults fa
 HasLogCause log old new (Damaged file place) = ⊥
 HasLogCause log old new (LogFull n) = full_at log ≡ Some n
 
--- that of an opening
-abbrev pub HasOpenCause : Restart → Files → Counts → Counts → LogError → Type 0
-HasOpenCause restart files old new OutOfMemory = Unit {0}
-HasOpenCause restart files old new (FaultOf fault) = Rose (old.faults fault) (new.faults fault)
-HasOpenCause restart files old new (Damaged file place) = (file ≡ the_log) × IsDamage restart (files the_log) place
-HasOpenCause restart files old new (LogFull n) = ⊥
+-- that of an opening, by the log's content
+abbrev pub HasOpenCause : Restart → List ℕ → Counts → Counts → LogError → Type 0
+HasOpenCause restart content old new OutOfMemory = Unit {0}
+HasOpenCause restart content old new (FaultOf fault) = Rose (old.faults fault) (new.faults fault)
+HasOpenCause restart content old new (Damaged file place) = (file ≡ the_log) × IsDamage restart content place
+HasOpenCause restart content old new (LogFull n) = ⊥
 
 -- the same of what shows by the counts alone
 abbrev pub CountsLogFault : Counts → Counts → LogError → Type 0

@@ -9,8 +9,8 @@ use Rattle.px_told.specs.declared.change.Change.{Change}
 use Rattle.px_told.specs.declared.change.Change.TheVariants.{Put, Commit, Rollback}
 use Rattle.px_told.specs.Changes.{is_end}
 use Rattle.px_xlog.specs.Payload.{change_text, may_hold_all}
-use Rattle.px_xlog.specs.Reading.{the_log, log_text}
-use Rattle.px_xlog.specs.Images.{IsPlainLog, IsBehind}
+use Rattle.px_xlog.specs.Contents.{the_log, log_text}
+use Rattle.px_xlog.specs.Written.{IsPlainLog, IsBehind}
 
 pub record Log : Type 0 where
   pub tables : ℕ

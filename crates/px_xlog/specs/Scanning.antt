@@ -6,7 +6,7 @@ use Rattle.px_told.specs.declared.change.Change.{Change}
 use Rattle.px_xlog.specs.declared.error.LogError.{LogError}
 use Rattle.px_xlog.specs.declared.error.LogError.TheVariants.{OutOfMemory, Fault as FaultOf, Damaged, LogFull}
 use Rattle.px_xlog.specs.Payload.{change_text, may_hold}
-use Rattle.px_xlog.specs.Reading.{the_log, log_text, HoldsNone}
+use Rattle.px_xlog.specs.Contents.{the_log, log_text, HoldsNone}
 
 -- the payload is no change that this frame may hold
 abbrev pub IsForeign : (tables number : ℕ) → List ℕ → Type 0

@@ -1,13 +1,11 @@
-ghost use Rattle.std.specs.Prelude.{◌≡◌, ⊤, ℕ, ◌*◌, ◌^◌, ◌≤◌, true, List, length, take, IfOk, IfErr, OnOk};
-ghost use Rattle.px_model.specs.declared.row.Row.{Row};
+ghost use Rattle.std.specs.Prelude.{◌≡◌, ⊤, ◌*◌, ◌^◌, ◌≤◌, true, length, take, IfOk, IfErr, OnOk};
 ghost use Rattle.px_site.specs.Cause.{NoneFell};
 ghost use Rattle.px_site.specs.Disk.{at_rest};
 ghost use Rattle.px_site.specs.State.{EachMoment, OnFile, Stands};
 ghost use Rattle.px_xlog.specs.Errors.{CountsLogFault, HasOpenCause, IsFileFault, IsOfSite, LeavesSite};
-ghost use Rattle.px_xlog.specs.Images.{KeepsStanding, Settled};
 ghost use Rattle.px_xlog.specs.Log.{IsCutting, IsLogOf, OnlyGrew, ReadsAsBefore};
 ghost use Rattle.px_xlog.specs.Payload.{may_hold_all};
-ghost use Rattle.px_xlog.specs.Reading.{Scans, log_text, the_log};
+ghost use Rattle.px_xlog.specs.Contents.{Scans, log_text, the_log};
 ghost use Rattle.px_xlog.specs.Scanning.{ScansTo};
 ghost use Rattle.px_xlog.specs.Window.{longest_frame};
 
@@ -39,12 +37,10 @@ pub fn open_log<W: Site>(
     ensures moments { W.tells → OnlyGrew ((W.state site.old).now.files the_log) ((W.state site.old).content the_log)
         → EachMoment (OnFile the_log (W.state site.old).now (ReadsAsBefore ((W.state site.old).now.files the_log))) (W.state site.old) (W.state site.new) }
     ensures log_alone { W.tells → EachMoment (OnFile the_log (W.state site.old).now (λ file. ⊤)) (W.state site.old) (W.state site.new) }
-    ensures standing { W.tells → (commits : ℕ) (rows : List Row) → Settled (W.state site.old) commits rows
-        → EachMoment (KeepsStanding commits rows (W.state site.old).now) (W.state site.old) (W.state site.new) }
     ensures none_fell { NoneFell (W.counts site.old) (W.counts site.new) }
     ensures fault { IfErr result (CountsLogFault (W.counts site.old) (W.counts site.new)) }
     ensures own { IfErr result IsFileFault }
-    ensures cause { W.tells → IfErr result (HasOpenCause restart.now (W.state site.old).content (W.counts site.old) (W.counts site.new)) }
+    ensures cause { W.tells → IfErr result (HasOpenCause restart.now ((W.state site.old).content the_log) (W.counts site.old) (W.counts site.new)) }
 {
     let scan = recover(alloc, site, restart)?;
     let log = Xlog::recovered(alloc, restart.tables, scan.frames, scan.stop);
@@ -66,7 +62,7 @@ fn recover<W: Site>(alloc: Global, site: &mut W, restart: &Restart) -> Result<Lo
     ensures none_fell { NoneFell (W.counts site.old) (W.counts site.new) }
     ensures fault { IfErr result (CountsLogFault (W.counts site.old) (W.counts site.new)) }
     ensures own { IfErr result IsFileFault }
-    ensures cause { W.tells → IfErr result (HasOpenCause restart.now (W.state site.old).content (W.counts site.old) (W.counts site.new)) }
+    ensures cause { W.tells → IfErr result (HasOpenCause restart.now ((W.state site.old).content the_log) (W.counts site.old) (W.counts site.new)) }
 {
     let scan = read_log(alloc, site, restart.tables)?;
     if scan.frames < restart.durable {

@@ -3,7 +3,7 @@ ghost use Rattle.px_site.specs.Cause.{NoneFell};
 ghost use Rattle.px_frame.specs.Frame.{payload_at};
 ghost use Rattle.px_xlog.specs.Errors.{CountsLogFault, IsFileFault};
 ghost use Rattle.px_xlog.specs.Payload.{change_text, may_hold, may_hold_all};
-ghost use Rattle.px_xlog.specs.Reading.{the_log};
+ghost use Rattle.px_xlog.specs.Contents.{the_log};
 ghost use Rattle.px_xlog.specs.Scanning.{FindsDamage, FindsForeign, IsForeign, IsNext, ScansTo};
 ghost use Rattle.px_xlog.specs.Window.{Sees, longest_frame};
 

@@ -1,7 +1,7 @@
 ghost use Rattle.std.specs.Prelude.{◌≡◌, ◌↔◌, ◌-◌, ◌^◌, ◌≤◌, ℕ, List, [], drop, IfOk, IfErr, OnOk, IsTrue};
 ghost use Rattle.px_site.specs.Cause.{NoneFell};
 ghost use Rattle.px_xlog.specs.Errors.{IsFileFault, IsOfSite};
-ghost use Rattle.px_xlog.specs.Reading.{the_log};
+ghost use Rattle.px_xlog.specs.Contents.{the_log};
 ghost use Rattle.px_xlog.specs.Window.{Covers, Sees};
 
 use crate::LogError;

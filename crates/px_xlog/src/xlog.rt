@@ -5,7 +5,7 @@ ghost use Rattle.px_xlog.specs.Errors.{HasLogCause, IsFaultOf, IsOfSite, LeavesU
 ghost use Rattle.px_xlog.specs.Log.{HasFirst, IsLogOf, full_at, with_frame};
 ghost use Rattle.px_told.specs.Changes.{is_end};
 ghost use Rattle.px_xlog.specs.Payload.{may_hold};
-ghost use Rattle.px_xlog.specs.Reading.{the_log};
+ghost use Rattle.px_xlog.specs.Contents.{the_log};
 ghost use Rattle.px_xlog.specs.Window.{longest_frame};
 ghost use Rattle.px_told.specs.declared.change.Change.{Change};
 

@@ -5,7 +5,7 @@ use Rattle.px_site.proofs.Causes.{then_none_fell, no_fall}
 use Rattle.px_frame.specs.Frame.{payload_at}
 use Rattle.px_told.specs.declared.change.Change.{Change}
 use Rattle.px_xlog.specs.Payload.{may_hold_all}
-use Rattle.px_xlog.specs.Reading.{the_log}
+use Rattle.px_xlog.specs.Contents.{the_log}
 use Rattle.px_xlog.specs.Scanning.{FindsForeign, IsNext}
 use Rattle.px_xlog.specs.Window.{Sees}
 use Rattle.px_xlog.proofs.LogReading.{IsReading, reading_begins, reading_goes_on, held_goes_on, reading_ends, damage_found}

@@ -1,7 +1,7 @@
 use Rattle.std.proofs.Common.{◌≡◌, ◌*◌, ◌-◌, ◌^◌, ◌≤◌, true, length}
 use Rattle.px_site.specs.Cause.{NoneFell}
 use Rattle.px_xlog.specs.Payload.{may_hold_all}
-use Rattle.px_xlog.specs.Reading.{the_log}
+use Rattle.px_xlog.specs.Contents.{the_log}
 use Rattle.px_xlog.specs.Window.{Sees}
 use Rattle.px_xlog.proofs.LogReading.{IsReading}
 use Rattle.px_xlog.proofs.reader.read_log.Given as goal
