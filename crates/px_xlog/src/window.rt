@@ -6,12 +6,14 @@ ghost use Rattle.px_xlog.specs.Window.{Covers, Sees};
 
 use crate::LogError;
 use crate::place::log_file;
+use px_bytes::LONGEST_PAYLOAD;
+use px_frame::HEADER_SIZE;
 use px_site::Site;
 use std::alloc::{AllocError, Global};
 use std::marker::Model;
 
 /// The size of a frame with the longest payload.
-const LONGEST_FRAME: u64 = 8208;
+const LONGEST_FRAME: u64 = (HEADER_SIZE + LONGEST_PAYLOAD) as u64;
 
 /// So many bytes hold some frames of each size.
 const ROOM: usize = 65_536;
