@@ -10,7 +10,7 @@ use Rattle.px_xlog.proofs.FramesOfChanges.{length-map-text}
 use Rattle.px_standing.proofs.Finding.{found_scan}
 use Rattle.px_recovery.specs.Errors.{HasRefusal, IsPassing}
 use Rattle.px_recovery.specs.declared.error.OpenError.{OpenError}
-use Rattle.px_recovery.specs.declared.error.OpenError.TheVariants.{OutOfMemory, Fault as FaultOf, NoStore, Damaged, LogFull}
+use Rattle.px_recovery.specs.declared.error.OpenError.TheVariants.{OutOfMemory, Fault as FaultOf, NoStore, Damaged}
 use Rattle.px_recovery.proofs.OneStore.{first_text, one_picked}
 
 -- a payload among those of changes that may stand there is that of one
@@ -52,4 +52,3 @@ only_passing files restart changes NoStore finds refusal = absurd (no_absence fi
 only_passing files restart changes (Damaged file place) finds refusal =
     let one : refusal.0 ≡ restart = one_picked (first_restart files) (second_restart files) refusal.0 restart refusal.2 finds.picked in
     absurd (no_damage restart (files the_log) changes place (found_scan files restart changes finds) (subst (λ (r : Restart). IsDamage r (files the_log) place) one refusal.3))
-only_passing files restart changes (LogFull number) finds refusal = absurd refusal

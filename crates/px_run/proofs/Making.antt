@@ -19,7 +19,8 @@ use Rattle.px_recovery.specs.Making.{IsFree, IsMade, StaysNew, WritesFirstFile, 
 use Rattle.px_run.specs.declared.command.Command.TheVariants.{Make}
 use Rattle.px_run.specs.Causes.{HasStatusCause}
 use Rattle.px_run.specs.Making.{Made, made_pieces}
-use Rattle.px_run.specs.Statuses.{status_of_make, status_of_tell}
+use Rattle.px_play.specs.Told.{status_of_tell}
+use Rattle.px_recovery.specs.Errors.{status_of_make}
 use Rattle.px_run.specs.Working.{MakesStore, OnlyTells}
 use Rattle.px_run.proofs.Alike.{new_alike, settled_alike}
 use Rattle.px_run.proofs.Pieces.{only_spoke, told_nothing}

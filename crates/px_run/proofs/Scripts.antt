@@ -38,7 +38,7 @@ use Rattle.px_play.proofs.Replies.{IsQuiet, line_quiet, quiet_acknowledged}
 use Rattle.px_play.proofs.Stays.{stored_image, stored_spoke}
 use Rattle.px_play.proofs.Words.{no_feed, no_feed_both, decimal_no_feed}
 use Rattle.px_run.specs.Running.{HasAll, RunEnds, log_after, machine_after, opening_line, run_pieces}
-use Rattle.px_run.specs.Statuses.{status_of_opening}
+use Rattle.px_recovery.specs.Errors.{status_of_opening}
 use Rattle.px_run.specs.Working.{RunsScript, TellsPiece}
 use Rattle.px_run.proofs.Alike.{stand_alike}
 use Rattle.px_run.proofs.Opening.{settles}

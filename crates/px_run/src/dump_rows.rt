@@ -16,7 +16,6 @@ ghost use Rattle.px_run.specs.declared.command.Command.{Command};
 ghost use Rattle.px_calls.specs.Texts.{row_line};
 
 use crate::ended::Ended;
-use crate::statuses::status_of_opening;
 use crate::telling::tell;
 use px_calls::{Status, count_line, row_line};
 use px_core::Core;
@@ -46,7 +45,7 @@ pub(crate) fn dump_rows<W: Site>(alloc: Global, site: W) -> Ended<W>
         }
         Err(refused) => Ended {
             site: refused.site,
-            status: status_of_opening(refused.error),
+            status: Status::from(refused.error),
         },
     }
 }

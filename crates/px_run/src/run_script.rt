@@ -16,7 +16,6 @@ ghost use Rattle.px_run.specs.Working.{RefusesQuietly, RunsScript};
 ghost use Rattle.px_run.specs.declared.command.Command.{Command};
 
 use crate::ended::Ended;
-use crate::statuses::status_of_opening;
 use crate::telling::tell;
 use px_calls::{Status, opened_line};
 use px_play::play;
@@ -49,7 +48,7 @@ pub(crate) fn run_script<W: Site, S: Source>(alloc: Global, source: &mut S, site
         }
         Err(refused) => Ended {
             site: refused.site,
-            status: status_of_opening(refused.error),
+            status: Status::from(refused.error),
         },
     }
 }

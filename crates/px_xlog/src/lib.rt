@@ -8,7 +8,7 @@
 //! - `place`: in which file a frame stands, and from which number on. Segments will change it alone.
 //! - `xlog`, `frame_buffer`: the log to which frames are appended, and the bytes of one frame.
 //! - `open`, `reader`, `window`: the log is read from its file, and what is torn behind it is cut.
-//! - `error`: why a call gives up.
+//! - `error`: why a frame isn't appended, and why a log isn't opened.
 //! - `laws`: what the definitions say of small examples.
 //!
 //! The definitions: `specs/Payload` the grammar; `specs/Contents` what the bytes of the log are; `specs/Written` what a
@@ -26,7 +26,7 @@ mod reader;
 mod window;
 mod xlog;
 
-pub use error::LogError;
+pub use error::{LogError, LogOpenError};
 pub use laws::{texts_of_changes, what_a_frame_may_hold};
 pub use list::ChangeList;
 pub use open::open_log;

@@ -11,7 +11,7 @@ ghost use Rattle.px_xlog.specs.Window.{longest_frame};
 
 use crate::place::log_file;
 use crate::reader::{LogScan, read_log};
-use crate::{ChangeList, LogError, Xlog};
+use crate::{ChangeList, LogOpenError, Xlog};
 use px_restart::Restart;
 use px_site::Site;
 use std::alloc::Global;
@@ -24,7 +24,7 @@ pub fn open_log<W: Site>(
     alloc: Global,
     site: &mut W,
     restart: &Restart,
-) -> Result<(Xlog, ChangeList), LogError>
+) -> Result<(Xlog, ChangeList), LogOpenError>
     ensures read { W.tells → IfOk result (λ opened. Scans restart.now ((W.state site.old).content the_log) opened.1) }
     ensures held { IfOk result (λ opened. may_hold_all restart.now.tables 0 opened.1 ≡ true) }
     ensures count { IfOk result (λ opened. opened.0.frames ≡ length opened.1) }
@@ -47,7 +47,7 @@ pub fn open_log<W: Site>(
     Ok((log, scan.changes))
 }
 
-fn recover<W: Site>(alloc: Global, site: &mut W, restart: &Restart) -> Result<LogScan, LogError>
+fn recover<W: Site>(alloc: Global, site: &mut W, restart: &Restart) -> Result<LogScan, LogOpenError>
     ensures scan { W.tells → IfOk result (λ scan. ScansTo ((W.state site.old).content the_log) scan.changes scan.stop) }
     ensures held { IfOk result (λ scan. may_hold_all restart.now.tables 0 scan.changes ≡ true) }
     ensures count { IfOk result (λ scan. scan.frames ≡ length scan.changes) }
@@ -66,7 +66,7 @@ fn recover<W: Site>(alloc: Global, site: &mut W, restart: &Restart) -> Result<Lo
 {
     let scan = read_log(alloc, site, restart.tables)?;
     if scan.frames < restart.durable {
-        return Err(LogError::Damaged {
+        return Err(LogOpenError::Damaged {
             file: log_file(),
             place: scan.stop,
         });
@@ -77,7 +77,7 @@ fn recover<W: Site>(alloc: Global, site: &mut W, restart: &Restart) -> Result<Lo
 
 // What stands behind the scanned frames is cut, and the cut is synced before anything is written there. Else a whole
 // frame behind a torn one might come back once a new frame stands in the torn one's place.
-fn cut_log<W: Site>(site: &mut W, stop: u64) -> Result<(), LogError>
+fn cut_log<W: Site>(site: &mut W, stop: u64) -> Result<(), LogOpenError>
     ensures left { W.tells → OnOk result (Stands the_log (W.state site.old)
         (at_rest (take stop ((W.state site.old).content the_log))) (take stop ((W.state site.old).content the_log)) (W.state site.new)) }
     ensures moments { W.tells → EachMoment (OnFile the_log (W.state site.old).now

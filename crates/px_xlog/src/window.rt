@@ -4,7 +4,7 @@ ghost use Rattle.px_xlog.specs.Errors.{IsFileFault, IsOfSite};
 ghost use Rattle.px_xlog.specs.Contents.{the_log};
 ghost use Rattle.px_xlog.specs.Window.{Covers, Sees};
 
-use crate::LogError;
+use crate::LogOpenError;
 use crate::place::log_file;
 use px_bytes::LONGEST_PAYLOAD;
 use px_frame::HEADER_SIZE;
@@ -53,7 +53,7 @@ impl Window {
     }
 
     /// Moves the window, if need be, so that it covers the place.
-    pub fn cover<W: Site>(&mut self, site: &mut W, place: u64) -> Result<(), LogError>
+    pub fn cover<W: Site>(&mut self, site: &mut W, place: u64) -> Result<(), LogOpenError>
         requires { place ≤ 2 ^ 62 }
         ensures covers { OnOk result (Covers place self.new) }
         ensures sees { W.tells → Sees ((W.state site.old).content the_log) self.old

@@ -35,7 +35,7 @@ returns-in-Ok-clause-moments g c t restart changes store =
 
 pub returns-in-Err-clause-dumps : goal.returns-in-Err-clause-dumps
 returns-in-Err-clause-dumps g c t restart changes shows =
-    subst (DumpsRows restart changes (g.W.Site.state c.args.site) (g.W.Site.state c.in-Err.refused.site)) (sym c.status_of_opening.ensures)
+    subst (DumpsRows restart changes (g.W.Site.state c.args.site) (g.W.Site.state c.in-Err.refused.site)) (sym c.from.ensures)
     (undumped restart changes (g.W.Site.state c.args.site) (g.W.Site.state c.in-Err.refused.site) c.in-Err.refused.error shows (c.in-Err.ensures.told t) (c.in-Err.ensures.refused t))
 
 pub returns-in-Err-clause-moments : goal.returns-in-Err-clause-moments

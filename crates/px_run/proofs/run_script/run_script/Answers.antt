@@ -41,7 +41,7 @@ returns-in-Err-clause-runs g c = λ tells source_tells restart changes store.
     let input = g.S.Source.left c.args.source.now in
     let before = g.W.Site.state c.args.site in
     let now = g.W.Site.state c.in-Err.refused.site in
-    subst (RunsScript restart changes input input before now) (sym c.status_of_opening.ensures)
+    subst (RunsScript restart changes input input before now) (sym c.from.ensures)
     (not_opened restart changes input before now c.in-Err.refused.error (c.in-Err.ensures.sound tells restart changes store.finds) (c.in-Err.ensures.told tells))
 
 pub returns-in-Err-clause-moments : goal.returns-in-Err-clause-moments
