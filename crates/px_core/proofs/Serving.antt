@@ -14,22 +14,22 @@ use Rattle.px_told.specs.declared.change.Change.TheVariants.{Commit as CommitCha
 use Rattle.px_xlog.specs.Log.{Log, HasFirst, IsLogOf, full_at, with_frame}
 use Rattle.px_told.specs.Changes.{is_end}
 use Rattle.px_xlog.specs.Payload.{may_hold}
-use Rattle.px_xlog.specs.Reading.{the_log}
+use Rattle.px_xlog.specs.Contents.{the_log}
 use Rattle.px_logged.specs.Fitting.{Fits, tag_of}
 use Rattle.px_logged.specs.Logged.{logged}
-use Rattle.px_stored.specs.Stored.{Stored, ReadsImages}
-use Rattle.px_stored.proofs.Calls.{stored_still, appending_stands, stored_appended, both_moments, commit_stands, stored_committed}
+use Rattle.px_standing.specs.Stored.{Stored, ReadsImages}
+use Rattle.px_standing.proofs.Calls.{stored_still, appending_stands, stored_appended, both_moments, commit_stands, stored_committed}
 use Rattle.px_core.specs.Appending.{Appends, AppendFails, Flushes, FlushFails, HasAppendCause, LeavesFronts}
 use Rattle.px_core.specs.Core.{Kept, AsBefore, Breaks, Leaves, HasCallCause, UnlessEnd}
 use Rattle.px_core.specs.Serving.{Answers, Refuses, StandsWithin}
 use Rattle.px_core.proofs.Writing.{added_may_stand, commit_adds_one, fits_one}
 use Rattle.px_core.specs.declared.error.CoreError.{CoreError}
-use Rattle.px_core.specs.declared.error.CoreError.TheVariants.{OutOfMemory, Fault as FaultOf, Damaged, LogFull, Broken}
+use Rattle.px_core.specs.declared.error.CoreError.TheVariants.{OutOfMemory, Fault as FaultOf, LogFull, Broken}
 
 -- an error is passed on
 pub if_err : {T E : Type 0} (r : Result T E) (P Q : E → Type 0) → IsErrAnd r Q → ((error : E) → Q error → P error) → IfErr r P
-if_err {T} {E} (Ok x) P Q is says = tt
-if_err {T} {E} (Err error) P Q is says = says error is
+if_err {T} {E} (Ok x) P Q is finds = tt
+if_err {T} {E} (Err error) P Q is finds = finds error is
 
 -- ---- nothing is added
 
@@ -64,7 +64,7 @@ from_old {W} tells state session call change old mid new one t changes is =
 pub stands_adding : {W : Type 0} (tells : Type 0) (state : W → State) (session : ℕ) (call : Call) (change : Change) (old mid new : Kept W) → call ≢ Commit → Adds tells state session call change old mid new → tells
     → StandsWithin state session call old new
 stands_adding {W} tells state session call change old mid new other one t restart changes stored =
-    appending_stands restart changes old.log old.machine (state_after old.machine session call) session call change other one.adds one.may stored (from_old tells state session call change old mid new one t changes stored.log)
+    appending_stands restart changes old.log old.machine session call change other one.adds one.may stored (from_old tells state session call change old mid new one t changes stored.log)
 
 pub answers_adding : {W : Type 0} (tells : Type 0) (state : W → State) (session : ℕ) (call : Call) (change : Change) (old mid new : Kept W) (reply : Reply) → call ≢ Commit → Adds tells state session call change old mid new
     → Appends tells state change mid new → mid.error ≡ old.error → (next : Machine) → next ≡ state_after old.machine session call → new.log.frames ≤ 2 ^ 48
@@ -110,7 +110,6 @@ refuses_adding {W} tells state counts session call change old new error adds end
     by_error : (error : CoreError) → HasAppendCause counts change old new error → HasCallCause counts session call old new error
     by_error OutOfMemory cause = shorts cause
     by_error (FaultOf fault) cause = cause
-    by_error (Damaged file place) cause = cause
     by_error (LogFull n) cause = (cause, λ none. some (sym none ∙ adds))
     by_error (Broken kept) cause = absurd cause
 
@@ -138,34 +137,14 @@ refuses_back {W} tells state counts change old mid new error same fails = record
     left OutOfMemory (inl before) = inl (as_before before)
     left OutOfMemory (inr broken) = inr (breaks _ broken.0, subst (λ (w : W). Rose (counts w).shorts (counts new.site).shorts) site broken.1)
     left (FaultOf fault) broken = breaks _ broken
-    left (Damaged file place) before = as_before before
     left (LogFull n) before = as_before before
     left (Broken e) before = as_before before
 
     by_error : (error : CoreError) → HasAppendCause counts change mid new error → HasAppendCause counts change old (record new { machine = old.machine }) error
     by_error OutOfMemory cause = λ is. subst (λ (w : W). Rose (counts w).shorts (counts new.site).shorts) site (cause is)
     by_error (FaultOf fault) cause = (cause.0, subst (λ (w : W). Rose ((counts w).faults fault) ((counts new.site).faults fault)) site cause.1)
-    by_error (Damaged file place) cause = cause
     by_error (LogFull n) cause = subst (λ (l : Log). full_at l ≡ Some n) log cause
     by_error (Broken e) cause = cause
-
--- ---- the log couldn't be synced
-
-pub refuses_flushing : {W : Type 0} (tells : Type 0) (state : W → State) (counts : W → Counts) (session : ℕ) (old mid new : Kept W) (error : CoreError) → mid.machine ≡ old.machine → NoneFell (counts old.site) (counts mid.site)
-    → FlushFails counts mid new error → Refuses tells state counts session Commit old new error
-refuses_flushing {W} tells state counts session old mid new error same fell fails = by_error error fails
-  where
-    breaks : (e : _) → Breaks e mid new → Breaks e old new
-    breaks e broken = record { kept = broken.kept; machine = broken.machine ∙ same }
-
-    by_error : (error : CoreError) → FlushFails counts mid new error → Refuses tells state counts session Commit old new error
-    by_error OutOfMemory fails =
-        let rose : Rose (counts old.site).shorts (counts new.site).shorts = rose_from _ _ _ fell.shorts fails.1 in
-        record { leaves = inr (breaks _ fails.0, rose); cause = rose }
-    by_error (FaultOf fault) fails = record { leaves = breaks _ fails.0; cause = (fails.1, rose_from _ _ _ (fell.faults fault) fails.2) }
-    by_error (Damaged file place) fails = absurd fails
-    by_error (LogFull n) fails = absurd fails
-    by_error (Broken e) fails = absurd fails
 
 -- ---- a commit
 

@@ -1,8 +1,8 @@
 -- One frame more on the log of a core.
 use Rattle.std.specs.Prelude.{◌≡◌, ◌≢◌, ℕ, true, List, [], ◌∷◌, ◌++◌, Some, None}
-use Rattle.px_site.specs.declared.error.Fault.TheVariants.{Tell}
+use Rattle.px_site.specs.declared.error.Fault.TheVariants.{Sync, Tell}
 use Rattle.px_site.specs.State.{State, EachMoment, OnFile}
-use Rattle.px_site.specs.Cause.{Counts, Rose}
+use Rattle.px_site.specs.Cause.{Counts, HasCause, IsOwn, Rose}
 use Rattle.px_model.specs.declared.write.Write.{Write}
 use Rattle.px_model.specs.Machine.{Machine}
 use Rattle.px_machine_laws.specs.Writers.{writer_of, last_write_of}
@@ -11,11 +11,11 @@ use Rattle.px_told.specs.declared.change.Change.TheVariants.{Put}
 use Rattle.px_xlog.specs.Log.{Log, HasFirst, IsLogOf, full_at, with_frame}
 use Rattle.px_told.specs.Changes.{is_end}
 use Rattle.px_xlog.specs.Payload.{may_hold}
-use Rattle.px_xlog.specs.Reading.{the_log}
-use Rattle.px_site.specs.declared.error.SiteError.TheVariants.{OutOfMemory as SiteShort, Fault as SiteFault}
+use Rattle.px_xlog.specs.Contents.{the_log}
+use Rattle.px_site.specs.declared.error.SiteError.{SiteError}
 use Rattle.px_core.specs.Core.{Kept, Breaks, Leaves}
 use Rattle.px_core.specs.declared.error.CoreError.{CoreError}
-use Rattle.px_core.specs.declared.error.CoreError.TheVariants.{OutOfMemory, Fault as FaultOf, Damaged, LogFull, Broken}
+use Rattle.px_core.specs.declared.error.CoreError.TheVariants.{OutOfMemory, Fault as FaultOf, LogFull, Broken}
 
 -- the change was appended, and all else is as it was
 pub record Appends {W : Type 0} (tells : Type 0) (state : W → State) (change : Change) (old new : Kept W) : Type 0 where
@@ -44,7 +44,6 @@ LeavesFronts state grown old new =
 abbrev pub HasAppendCause : {W : Type 0} → (W → Counts) → Change → Kept W → Kept W → CoreError → Type 0
 HasAppendCause counts change old new OutOfMemory = is_end change ≡ true → Rose (counts old.site).shorts (counts new.site).shorts
 HasAppendCause counts change old new (FaultOf fault) = (fault ≢ Tell) × Rose ((counts old.site).faults fault) ((counts new.site).faults fault)
-HasAppendCause counts change old new (Damaged file place) = ⊥
 HasAppendCause counts change old new (LogFull n) = full_at old.log ≡ Some n
 HasAppendCause counts change old new (Broken error) = ⊥
 
@@ -54,12 +53,10 @@ pub record AppendFails {W : Type 0} (tells : Type 0) (state : W → State) (coun
   pub cause : HasAppendCause counts change old new error
 
 -- a sync's error breaks the core, and is the site's
-abbrev pub FlushFails : {W : Type 0} → (W → Counts) → Kept W → Kept W → CoreError → Type 0
-FlushFails counts old new OutOfMemory = Breaks SiteShort old new × Rose (counts old.site).shorts (counts new.site).shorts
-FlushFails counts old new (FaultOf fault) = Breaks (SiteFault fault) old new × (fault ≢ Tell) × Rose ((counts old.site).faults fault) ((counts new.site).faults fault)
-FlushFails counts old new (Damaged file place) = ⊥
-FlushFails counts old new (LogFull n) = ⊥
-FlushFails counts old new (Broken error) = ⊥
+pub record FlushFails {W : Type 0} (counts : W → Counts) (old new : Kept W) (error : SiteError) : Type 0 where
+  pub breaks : Breaks error old new
+  pub cause : HasCause (counts old.site) (counts new.site) error
+  pub own : IsOwn Sync error
 
 -- the log may hold the session's last write next
 abbrev pub MayPut : ℕ → Machine → Log → Type 0

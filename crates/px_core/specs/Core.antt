@@ -11,7 +11,7 @@ use Rattle.px_calls.specs.declared.call.Call.TheVariants.{Begin, Get, Hold, Fetc
 use Rattle.px_xlog.specs.Log.{Log, full_at}
 use Rattle.px_logged.specs.Logged.{logged}
 use Rattle.px_core.specs.declared.error.CoreError.{CoreError}
-use Rattle.px_core.specs.declared.error.CoreError.TheVariants.{OutOfMemory, Fault as FaultOf, Damaged, LogFull, Broken}
+use Rattle.px_core.specs.declared.error.CoreError.TheVariants.{OutOfMemory, Fault as FaultOf, LogFull, Broken}
 
 pub record Kept (W : Type 0) : Type 0 where
   pub site : W
@@ -37,7 +37,6 @@ abbrev pub Leaves : {W : Type 0} → Type 0 → (W → State) → (W → Counts)
 Leaves tells state counts old new OutOfMemory =
     AsBefore tells state old new ⊎ (Breaks SiteShort old new × Rose (counts old.site).shorts (counts new.site).shorts)
 Leaves tells state counts old new (FaultOf fault) = Breaks (SiteFault fault) old new
-Leaves tells state counts old new (Damaged file place) = AsBefore tells state old new
 Leaves tells state counts old new (LogFull n) = AsBefore tells state old new
 Leaves tells state counts old new (Broken error) = AsBefore tells state old new
 
@@ -70,7 +69,6 @@ UnlessEnd _ P = ⊤
 abbrev pub HasCallCause : {W : Type 0} → (W → Counts) → ℕ → Call → Kept W → Kept W → CoreError → Type 0
 HasCallCause counts session call old new OutOfMemory = UnlessEnd call (Rose (counts old.site).shorts (counts new.site).shorts)
 HasCallCause counts session call old new (FaultOf fault) = (fault ≢ Tell) × Rose ((counts old.site).faults fault) ((counts new.site).faults fault)
-HasCallCause counts session call old new (Damaged file place) = ⊥
 HasCallCause counts session call old new (LogFull n) = (full_at old.log ≡ Some n) × (logged old.machine session call ≢ [])
 HasCallCause counts session call old new (Broken error) = old.error ≡ Some error
 
@@ -78,6 +76,5 @@ HasCallCause counts session call old new (Broken error) = old.error ≡ Some err
 abbrev pub HasReadCause : {W : Type 0} → Kept W → CoreError → Type 0
 HasReadCause old OutOfMemory = ⊤
 HasReadCause old (FaultOf fault) = ⊥
-HasReadCause old (Damaged file place) = ⊥
 HasReadCause old (LogFull n) = ⊥
 HasReadCause old (Broken error) = old.error ≡ Some error

@@ -1,4 +1,5 @@
 pub mod Appending
 pub mod Core
+pub mod Errors
 pub mod Rows
 pub mod Serving

@@ -2,6 +2,7 @@
 use Rattle.std.specs.Prelude.{◌≡◌, ◌≢◌, ℕ, List, [], ◌++◌, None}
 use Rattle.px_site.specs.State.{State, EachMoment}
 use Rattle.px_site.specs.Cause.{Counts}
+use Rattle.px_model.specs.Machine.{commits}
 use Rattle.px_restart.specs.declared.restart.Restart.{Restart}
 use Rattle.px_calls.specs.declared.call.Call.{Call}
 use Rattle.px_calls.specs.declared.reply.Reply.{Reply}
@@ -9,7 +10,8 @@ use Rattle.px_calls.specs.Steps.{reply_of, state_after}
 use Rattle.px_told.specs.declared.change.Change.{Change}
 use Rattle.px_xlog.specs.Log.{full_at}
 use Rattle.px_logged.specs.Logged.{logged}
-use Rattle.px_stored.specs.Stored.{Stored, StandsForEither}
+use Rattle.px_standing.specs.Stored.{Stored}
+use Rattle.px_standing.specs.Images.{acked, StandsBetween}
 use Rattle.px_core.specs.Core.{Kept, Leaves, HasCallCause}
 use Rattle.px_core.specs.declared.error.CoreError.{CoreError}
 
@@ -28,8 +30,8 @@ pub record Refuses {W : Type 0} (tells : Type 0) (state : W → State) (counts :
   pub leaves : Leaves tells state counts old new error
   pub cause : HasCallCause counts session call old new error
 
--- whatever a crash within the call leaves stands for what was committed before it, or after it
+-- whatever a crash within the call leaves stands for what was published by an acknowledged commit or a later one, up to what the call commits
 abbrev pub StandsWithin : {W : Type 0} → (W → State) → ℕ → Call → Kept W → Kept W → Type 0
 StandsWithin state session call old new =
     (restart : Restart) (changes : List Change) → Stored restart changes old.log old.machine (state old.site)
-    → EachMoment (StandsForEither old.machine (state_after old.machine session call) (state old.site).now) (state old.site) (state new.site)
+    → EachMoment (StandsBetween (acked old.machine) (commits (state_after old.machine session call)) (state_after old.machine session call) (state old.site).now) (state old.site) (state new.site)

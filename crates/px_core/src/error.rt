@@ -1,23 +1,39 @@
 ghost use Rattle.std.specs.Prelude.{◌≡◌};
+ghost use Rattle.px_core.specs.Errors.{of_site, status_of};
 ghost use Rattle.px_core.specs.declared.error.CoreError.TheVariants.{OutOfMemory};
 
-use px_site::{Fault, FileName, SiteError};
+use px_calls::Status;
+use px_site::{Fault, SiteError};
 use std::alloc::AllocError;
+use thiserror::Error;
 
 /// Why a call of the core gives up.
-#[derive(Clone, Copy, Debug, PartialEq, Eq)]
+#[derive(Clone, Copy, Debug, PartialEq, Eq, Error)]
 pub enum CoreError {
     /// The call, or the site in it, wanted memory.
+    #[error("out of memory")]
     OutOfMemory,
     /// A call of the site failed.
+    #[error("a file call failed: {0:?}")]
     Fault(Fault),
-    /// What was read at this place of this file isn't what a store may have there. No call answers it yet.
-    Damaged { file: FileName, place: u64 },
     /// The transaction log takes no frame with this number, and the call had one to append.
+    #[error("the log has no room for frame {0}")]
     LogFull(u64),
     /// An earlier call left the site with what the machine may not have: the store is to be opened again. This is the
     /// error that the earlier call answered.
+    #[error("the store is to be opened again: an earlier call failed with {0:?}")]
     Broken(SiteError),
+}
+
+impl From<SiteError> for CoreError {
+    ghost from_gives = { λ error e. e ≡ of_site error };
+
+    fn from(error: SiteError) -> CoreError {
+        match error {
+            SiteError::OutOfMemory => CoreError::OutOfMemory,
+            SiteError::Fault(fault) => CoreError::Fault(fault),
+        }
+    }
 }
 
 impl From<AllocError> for CoreError {
@@ -25,5 +41,22 @@ impl From<AllocError> for CoreError {
 
     fn from(_error: AllocError) -> CoreError {
         CoreError::OutOfMemory
+    }
+}
+
+/// A broken core answers what broke it.
+impl From<CoreError> for Status {
+    ghost from_gives = { λ error status. status ≡ status_of error };
+
+    fn from(error: CoreError) -> Status {
+        match error {
+            CoreError::OutOfMemory | CoreError::Broken(SiteError::OutOfMemory) => {
+                Status::OutOfMemory
+            }
+            CoreError::Fault(fault) | CoreError::Broken(SiteError::Fault(fault)) => {
+                Status::DiskFault(fault)
+            }
+            CoreError::LogFull(number) => Status::LogFull(number),
+        }
     }
 }

@@ -18,7 +18,8 @@ use Rattle.px_calls.specs.Steps.{open_of, is_refusal, if_open, unless_refused, w
 use Rattle.px_told.specs.declared.change.Change.{Change}
 use Rattle.px_told.specs.declared.change.Change.TheVariants.{Put, Commit as CommitChange, Rollback as RollbackChange}
 use Rattle.px_xlog.specs.Log.{Log}
-use Rattle.px_xlog.specs.Payload.{longest_key_and_body, may_hold, may_hold_all}
+use Rattle.px_xlog.specs.Payload.{may_hold, may_hold_all}
+use Rattle.px_xlog.specs.declared.payload.TheConstants.{LONGEST_KEY_AND_BODY}
 use Rattle.px_xlog.proofs.MayHold.{commit_may_be, rollback_may_be, row_may_be, deletion_may_be}
 use Rattle.px_logged.specs.Fitting.{Fits, tag_of}
 use Rattle.px_logged.specs.Logged.{put_of, end_of, logged_when_done, logged}
@@ -218,7 +219,7 @@ fits_after m log later session call fits same_tables grown =
 
 -- ---- a machine that starts now
 
-pub fresh_fits : (log : Log) (tables short : ℕ) (rows : List Row) (before base : ℕ) → log.tables ≡ tables → tables < 256 → short + LONGEST_KEY ≤ longest_key_and_body → base < 2 ^ 62 → before ≤ log.frames
+pub fresh_fits : (log : Log) (tables short : ℕ) (rows : List Row) (before base : ℕ) → log.tables ≡ tables → tables < 256 → short + LONGEST_KEY ≤ LONGEST_KEY_AND_BODY → base < 2 ^ 62 → before ≤ log.frames
     → Fits (fresh tables short rows before base) log
 unfolding fresh commits
 fresh_fits log tables short rows before base same few fits from within = record {

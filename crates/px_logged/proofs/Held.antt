@@ -1,11 +1,9 @@
 -- Changes that may stand in a log: how many commits they have, and which numbers.
 use Rattle.std.proofs.Common.{◌≡◌, ℕ, ◌+◌, ◌-◌, ◌^◌, ◌<◌, ◌≤◌, max, leb, ltb, true, List, [], ◌∷◌, length, arith}
 use Rattle.std.proofs.lemmas.Bool.{and_parts, leb-true, ltb-true}
-use Rattle.px_restart.specs.declared.restart.Restart.{Restart}
 use Rattle.px_told.specs.declared.change.Change.{Change}
 use Rattle.px_told.specs.declared.change.Change.TheVariants.{Put, Commit, Rollback}
 use Rattle.px_xlog.specs.Payload.{is_stored, is_write, is_change, is_within, may_hold, may_hold_all}
-use Rattle.px_xlog.specs.Reading.{base_after}
 use Rattle.px_told.specs.Commits.{last_commit, commits_in}
 use Rattle.px_told.specs.Changes.{stored_number, greatest_stored}
 
@@ -52,7 +50,3 @@ numbers_below tables number most (change ∷ changes) held below =
 
 pub numbers_within : (tables most : ℕ) (changes : List Change) → may_hold_all tables 0 changes ≡ true → most < 2 ^ 62 → greatest_stored most changes < 2 ^ 62
 numbers_within tables most changes held below = numbers_below tables 0 most changes held below
-
-pub base_within : (tables : ℕ) (restart : Restart) (changes : List Change) → may_hold_all tables 0 changes ≡ true → restart.next - 1 < 2 ^ 62 → base_after restart changes < 2 ^ 62
-unfolding base_after
-base_within tables restart changes held below = numbers_within tables (restart.next - 1) changes held below

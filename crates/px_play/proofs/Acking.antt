@@ -15,11 +15,12 @@ use Rattle.px_calls.specs.Histories.{state_after_all}
 use Rattle.px_calls.specs.Steps.{reply_of, state_after}
 use Rattle.px_calls.specs.Texts.{reply_text}
 use Rattle.px_told.specs.declared.change.Change.{Change}
-use Rattle.px_xlog.specs.Reading.{Files, StandsFor}
-use Rattle.px_xlog.specs.Images.{IsPlainImage}
+use Rattle.px_standing.specs.Standing.{Files, StandsFor}
+use Rattle.px_standing.specs.Images.{IsPlainImage}
 use Rattle.px_xlog.specs.Log.{Log}
 use Rattle.px_logged.proofs.Grown.{opening_stays, commits_rise, published_stays}
-use Rattle.px_stored.specs.Stored.{Stored, HasCommitted, StandsForEither}
+use Rattle.px_standing.specs.Stored.{Stored}
+use Rattle.px_standing.specs.Images.{acked, HasCommitted, HasBetween, StandsBetween}
 use Rattle.px_play.specs.Acknowledged.{acknowledged, HoldsAcknowledged, KeepsAcknowledged}
 use Rattle.px_script.specs.Lines.{open_line}
 use Rattle.px_play.specs.Turns.{Acknowledges, TellsReply}
@@ -83,21 +84,27 @@ acknowledges_next {before} {m} {s} {now} session call acks tells fits =
 
 -- ---- one image
 
--- the files have what a machine on the way has committed, and of it all is acknowledged but one at most
+-- the files have what a machine on the way has published by a commit before which all is acknowledged but one at most
+holds_between : (on_way : Machine) (calls : List (ℕ × Call)) (so_far : List ℕ) (image : Files) (least : ℕ) (has : HasBetween least (commits on_way) on_way image) → acknowledged on_way.before so_far ≤ has.count → has.count ≤ acknowledged on_way.before so_far + 1
+    → HoldsAcknowledged (state_after_all on_way calls) so_far image
+holds_between on_way calls so_far image least has no_less one_ahead =
+    let last : Machine = state_after_all on_way calls in
+    let same : last.before ≡ on_way.before = (opening_stays on_way calls).before in
+    let rows : published on_way (has.count - on_way.before) ≡ published last (has.count - last.before) =
+    sym (published_stays on_way calls (has.count - on_way.before) (omega (arith, has.no_more))) ∙ ap (λ (b : ℕ). published last (has.count - b)) (sym same) in
+    record {
+      count = has.count;
+      no_less = subst (λ (b : ℕ). acknowledged b so_far ≤ has.count) (sym same) no_less;
+      one_ahead = subst (λ (b : ℕ). has.count ≤ acknowledged b so_far + 1) (sym same) one_ahead;
+      made = omega (arith, has.no_more, commits_rise on_way calls);
+      stands = subst (λ (r : List Row). StandsFor image has.count r) rows has.stands;
+    }
+
+-- the same of all that it has committed
 pub holds_at : (on_way : Machine) (calls : List (ℕ × Call)) (so_far : List ℕ) (image : Files) → HasCommitted on_way image → acknowledged on_way.before so_far ≤ commits on_way → commits on_way ≤ acknowledged on_way.before so_far + 1
     → HoldsAcknowledged (state_after_all on_way calls) so_far image
 holds_at on_way calls so_far image has no_less one_ahead =
-    let last : Machine = state_after_all on_way calls in
-    let same : last.before ≡ on_way.before = (opening_stays on_way calls).before in
-    let rows : published on_way (commits on_way - on_way.before) ≡ published last (commits on_way - last.before) =
-    sym (published_stays on_way calls (commits on_way - on_way.before) (omega arith)) ∙ ap (λ (b : ℕ). published last (commits on_way - b)) (sym same) in
-    record {
-      count = commits on_way;
-      no_less = subst (λ (b : ℕ). acknowledged b so_far ≤ commits on_way) (sym same) no_less;
-      one_ahead = subst (λ (b : ℕ). commits on_way ≤ acknowledged b so_far + 1) (sym same) one_ahead;
-      made = commits_rise on_way calls;
-      stands = subst (λ (r : List Row). StandsFor image (commits on_way) r) rows has;
-    }
+    holds_between on_way calls so_far image (commits on_way) (record { count = commits on_way; no_less = omega arith; no_more = omega arith; stands = has }) no_less one_ahead
 
 pub nothing_taken : (n : ℕ) (l : List ℕ) → l ≡ [] → take n l ≡ []
 nothing_taken n l none = ap (take n) none ∙ of_nil n
@@ -121,7 +128,7 @@ commits_on m session call =
       | inr other ↦ (omega (arith, other.1), omega (arith, other.1))
     ]
 
-call_moment : {before : List ℕ} {m : Machine} {a : State} (session : ℕ) (call : Call) (calls : List (ℕ × Call)) → Acknowledges before m a → (moment : Moment) → StandsForEither m (state_after m session call) a.now moment
+call_moment : {before : List ℕ} {m : Machine} {a : State} (session : ℕ) (call : Call) (calls : List (ℕ × Call)) → Acknowledges before m a → (moment : Moment) → StandsBetween (acked m) (commits (state_after m session call)) (state_after m session call) a.now moment
     → KeepsAcknowledged (state_after_all m ((session, call) ∷ calls)) before moment
 call_moment {before} {m} {a} session call calls acks moment stands = record {
   each = λ image out plain is_out.
@@ -132,13 +139,12 @@ call_moment {before} {m} {a} session call calls acks moment stands = record {
   told_later = (acks.so_far, stands.told ∙ acks.told);
 }
   where
-    by_stand : (image : Files) → HasCommitted m image ⊎ HasCommitted (state_after m session call) image → HoldsAcknowledged (state_after_all m ((session, call) ∷ calls)) acks.so_far image
-    by_stand image (inl has) = holds_at m ((session, call) ∷ calls) acks.so_far image has (omega (arith, acks.all)) (omega (arith, acks.all))
-    by_stand image (inr has) =
+    by_stand : (image : Files) → HasBetween (acked m) (commits (state_after m session call)) (state_after m session call) image → HoldsAcknowledged (state_after_all m ((session, call) ∷ calls)) acks.so_far image
+    by_stand image has =
         let same : acknowledged (state_after m session call).before acks.so_far ≡ commits m = ap (λ (b : ℕ). acknowledged b acks.so_far) (before_stays m session call) ∙ acks.all in
-        holds_at (state_after m session call) calls acks.so_far image has (omega (arith, same, (commits_on m session call).0)) (omega (arith, same, (commits_on m session call).1))
+        holds_between (state_after m session call) calls acks.so_far image (acked m) has (omega (arith, same, has.no_less)) (omega (arith, same, has.no_more, (commits_on m session call).1))
 
-pub call_moments : {before : List ℕ} {m : Machine} {a b : State} (session : ℕ) (call : Call) (calls : List (ℕ × Call)) → Acknowledges before m a → EachMoment (StandsForEither m (state_after m session call) a.now) a b
+pub call_moments : {before : List ℕ} {m : Machine} {a b : State} (session : ℕ) (call : Call) (calls : List (ℕ × Call)) → Acknowledges before m a → EachMoment (StandsBetween (acked m) (commits (state_after m session call)) (state_after m session call) a.now) a b
     → EachMoment (KeepsAcknowledged (state_after_all m ((session, call) ∷ calls)) before) a b
 call_moments session call calls acks moments = weaker_moments (λ moment stands. call_moment session call calls acks moment stands) moments
 

@@ -21,14 +21,16 @@ use Rattle.px_calls.specs.Texts.{reply_text}
 use Rattle.px_told.specs.declared.change.Change.{Change}
 use Rattle.px_xlog.specs.Log.{Log, full_at, most_frames}
 use Rattle.px_logged.specs.Logged.{put_of, end_of, logged_when_done, logged}
-use Rattle.px_stored.specs.Stored.{Stored, StandsForEither}
-use Rattle.px_stored.proofs.Standing.{last_moment}
+use Rattle.px_standing.specs.Stored.{Stored}
+use Rattle.px_standing.specs.Images.{StandsBetween}
+use Rattle.px_standing.proofs.Standing.{last_moment}
 use Rattle.px_core.specs.declared.error.CoreError.{CoreError}
-use Rattle.px_core.specs.declared.error.CoreError.TheVariants.{OutOfMemory as CoreShort, Fault as FaultOf, Damaged as DamagedAt, LogFull as FullAt, Broken}
+use Rattle.px_core.specs.declared.error.CoreError.TheVariants.{OutOfMemory as CoreShort, Fault as FaultOf, LogFull as FullAt, Broken}
 use Rattle.px_core.specs.Core.{Kept}
+use Rattle.px_core.specs.Errors.{status_of}
 use Rattle.px_core.specs.Serving.{Answers, Refuses, StandsWithin}
 use Rattle.px_play.specs.Causes.{HasPlayCause}
-use Rattle.px_play.specs.Turns.{status_of, HasAnswerEnd, HasTellEnd, TellsReply, Answered, FoundFull, TurnsRight, KeepsWithin}
+use Rattle.px_play.specs.Turns.{HasAnswerEnd, HasTellEnd, TellsReply, Answered, FoundFull, TurnsRight, KeepsWithin}
 use Rattle.px_play.proofs.Stays.{stored_spoke}
 use Rattle.px_play.proofs.Acking.{call_moments, reply_moments}
 
@@ -89,8 +91,8 @@ numbered log changes added count few room = by_room (ltb log.frames most_frames)
 -- ---- the call was answered
 
 -- what was told is as it was
-told_still : {m next : Machine} {a b : State} → EachMoment (StandsForEither m next a.now) a b → b.now.told ≡ a.now.told
-told_still {m} {next} {a} {b} moments =
+told_still : {least most : ℕ} {m : Machine} {a b : State} → EachMoment (StandsBetween least most m a.now) a b → b.now.told ≡ a.now.told
+told_still {least} {most} {m} {a} {b} moments =
     elim (last_moment moments) [
       | inl same ↦ ap (λ (moment : Moment). moment.told) same
       | inr stands ↦ stands.told
@@ -178,7 +180,6 @@ pub refused_right : {W : Type 0} {tells : Type 0} {state : W → State} {counts 
     → (restart : Restart) (changes : List Change) → Stored restart changes old.log old.machine (state old.site) → TurnsRight restart changes (session, call) old new (state old.site) (state new.site) (Err (status_of error))
 refused_right CoreShort told whole refuses stands restart changes stored = told_still (stands restart changes stored)
 refused_right (FaultOf fault) told whole refuses stands restart changes stored = told_still (stands restart changes stored)
-refused_right (DamagedAt file place) told whole refuses stands restart changes stored = absurd refuses.cause
 refused_right (FullAt n) told whole refuses stands restart changes stored = found_full n told refuses stored
 refused_right (Broken SiteShort) told whole refuses stands restart changes stored = told_still (stands restart changes stored)
 refused_right (Broken (SiteFault fault)) told whole refuses stands restart changes stored = told_still (stands restart changes stored)
@@ -191,7 +192,6 @@ refused_moments state session call old new stands = λ restart changes stored be
 pub refused_ends : {W : Type 0} {tells : Type 0} {state : W → State} {counts : W → Counts} {session : ℕ} {call : Call} {old new : Kept W} (error : CoreError) → Refuses tells state counts session call old new error → HasAnswerEnd (status_of error)
 refused_ends CoreShort refuses = tt
 refused_ends (FaultOf fault) refuses = tt
-refused_ends (DamagedAt file place) refuses = absurd refuses.cause
 refused_ends (FullAt n) refuses = tt
 refused_ends (Broken SiteShort) refuses = tt
 refused_ends (Broken (SiteFault fault)) refuses = tt
@@ -200,7 +200,6 @@ pub refused_cause : {W : Type 0} {tells : Type 0} {state : W → State} {counts 
     → HasPlayCause (counts old.site) (counts new.site) 0 0 (status_of error)
 refused_cause CoreShort whole refuses = tt
 refused_cause (FaultOf fault) whole refuses = refuses.cause
-refused_cause (DamagedAt file place) whole refuses = absurd refuses.cause
 refused_cause {W} {tells} {state} {counts} {session} {call} {old} (FullAt n) whole refuses = (is_full old.log n refuses.cause.0).1
 refused_cause (Broken SiteShort) whole refuses = tt
 refused_cause {W} {tells} {state} {counts} {session} {call} {old} (Broken (SiteFault fault)) whole refuses = absurd (no_error old.error (SiteFault fault) whole refuses.cause)

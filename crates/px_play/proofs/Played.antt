@@ -20,7 +20,7 @@ use Rattle.px_script.specs.Progress.{Progress}
 use Rattle.px_told.specs.declared.change.Change.{Change}
 use Rattle.px_xlog.specs.Log.{most_frames}
 use Rattle.px_logged.specs.Logged.{logged, logged_by_all}
-use Rattle.px_stored.specs.Stored.{Stored}
+use Rattle.px_standing.specs.Stored.{Stored}
 use Rattle.px_core.specs.Core.{Kept}
 use Rattle.px_play.specs.Acknowledged.{KeepsAcknowledged}
 use Rattle.px_play.specs.Causes.{HasPlayCause}

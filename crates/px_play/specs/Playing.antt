@@ -14,7 +14,7 @@ use Rattle.px_script.specs.Lines.{complete_lines, lines_at_end}
 use Rattle.px_told.specs.declared.change.Change.{Change}
 use Rattle.px_xlog.specs.Log.{most_frames}
 use Rattle.px_logged.specs.Logged.{logged, logged_by_all}
-use Rattle.px_stored.specs.Stored.{Stored}
+use Rattle.px_standing.specs.Stored.{Stored}
 use Rattle.px_core.specs.Core.{Kept}
 use Rattle.px_play.specs.Input.{script_of}
 use Rattle.px_play.specs.Told.{IsTold}

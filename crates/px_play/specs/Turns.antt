@@ -16,20 +16,9 @@ use Rattle.px_script.specs.Grammar.{command_line}
 use Rattle.px_told.specs.declared.change.Change.{Change}
 use Rattle.px_xlog.specs.Log.{most_frames}
 use Rattle.px_logged.specs.Logged.{logged}
-use Rattle.px_stored.specs.Stored.{Stored}
+use Rattle.px_standing.specs.Stored.{Stored}
 use Rattle.px_core.specs.Core.{Kept}
-use Rattle.px_core.specs.declared.error.CoreError.{CoreError}
-use Rattle.px_core.specs.declared.error.CoreError.TheVariants.{OutOfMemory as CoreShort, Fault as FaultOf, Damaged as DamagedAt, LogFull as FullAt, Broken}
 use Rattle.px_play.specs.Acknowledged.{TellsWhole, acknowledged, KeepsAcknowledged}
-
--- the status by which a core's error ends a run; a broken core answers what broke it
-abbrev pub status_of : CoreError → Status
-status_of CoreShort = OutOfMemory
-status_of (FaultOf fault) = DiskFault fault
-status_of (DamagedAt file place) = Damaged file place
-status_of (FullAt number) = LogFull number
-status_of (Broken SiteShort) = OutOfMemory
-status_of (Broken (SiteFault fault)) = DiskFault fault
 
 -- what the bytes of a line ask for: a call, or that they are no command
 abbrev pub ReadsCommand : (line : List ℕ) (number : ℕ) → Result (ℕ × Call) Status → Type 0

@@ -5,7 +5,7 @@ ghost use Rattle.px_restart.specs.declared.restart.Restart.{Restart};
 ghost use Rattle.px_model.specs.Machine.{commits};
 ghost use Rattle.px_calls.specs.Histories.{state_after_all};
 ghost use Rattle.px_told.specs.declared.change.Change.{Change};
-ghost use Rattle.px_stored.specs.Stored.{Stored};
+ghost use Rattle.px_standing.specs.Stored.{Stored};
 ghost use Rattle.px_play.specs.Acknowledged.{KeepsAcknowledged, TellsWhole, acknowledged};
 ghost use Rattle.px_play.specs.Causes.{HasPlayCause};
 ghost use Rattle.px_play.specs.Input.{EndsInput, script_of};

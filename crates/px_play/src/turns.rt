@@ -5,15 +5,16 @@ ghost use Rattle.px_restart.specs.declared.restart.Restart.{Restart};
 ghost use Rattle.px_calls.specs.declared.call.Call.{Call};
 ghost use Rattle.px_script.specs.Grammar.{command_line};
 ghost use Rattle.px_told.specs.declared.change.Change.{Change};
-ghost use Rattle.px_stored.specs.Stored.{Stored};
+ghost use Rattle.px_standing.specs.Stored.{Stored};
 ghost use Rattle.px_play.specs.Causes.{HasPlayCause};
-ghost use Rattle.px_play.specs.Turns.{HasAnswerEnd, HasTellEnd, HasTurnEnd, KeepsWithin, TellsReply, TurnsRight, status_of};
+ghost use Rattle.px_play.specs.Turns.{HasAnswerEnd, HasTellEnd, HasTurnEnd, KeepsWithin, TellsReply, TurnsRight};
 
 use crate::commands::command;
+use crate::status_of_tell;
 use px_calls::{Call, Reply, Status, reply_text};
-use px_core::{Core, CoreError};
+use px_core::Core;
 use px_model::Session;
-use px_site::{Site, SiteError};
+use px_site::Site;
 use std::alloc::Global;
 
 /// Answers a line, whose number counts from 1: its call is made, and the reply told. `text` is room for the reply's text,
@@ -62,24 +63,8 @@ fn answer<W: Site>(
         → TurnsRight restart changes (session, call.now) core.old core.new (W.state core.old.site) (W.state core.new.site) result }
     ensures moments { W.tells → KeepsWithin (session, call.now) core.old (W.state core.old.site) (W.state core.new.site) }
 {
-    let reply = match core.step(session, call) {
-        Ok(reply) => reply,
-        Err(error) => return Err(status_of(error)),
-    };
+    let reply = core.step(session, call)?;
     tell_reply(core, &reply, text)
-}
-
-fn status_of(error: CoreError) -> Status
-    ensures { result ≡ status_of error }
-{
-    match error {
-        CoreError::OutOfMemory | CoreError::Broken(SiteError::OutOfMemory) => Status::OutOfMemory,
-        CoreError::Fault(fault) | CoreError::Broken(SiteError::Fault(fault)) => {
-            Status::DiskFault(fault)
-        }
-        CoreError::Damaged { file, place } => Status::Damaged { file, place },
-        CoreError::LogFull(number) => Status::LogFull(number),
-    }
 }
 
 /// Tells a reply. `OutputFault`: a front of it was told; `OutOfMemory`: nothing was.
@@ -95,7 +80,6 @@ fn tell_reply<W: Site>(core: &mut Core<W>, reply: &Reply, text: &mut Vec<u8>) ->
     }
     match core.tell(text.as_slice()) {
         Ok(()) => Ok(()),
-        Err(SiteError::Fault(_)) => Err(Status::OutputFault),
-        Err(SiteError::OutOfMemory) => Err(Status::OutOfMemory),
+        Err(error) => Err(status_of_tell(error)),
     }
 }

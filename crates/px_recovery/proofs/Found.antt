@@ -13,7 +13,8 @@ use Rattle.px_model.specs.Machine.{Machine, fresh}
 use Rattle.px_told.specs.declared.change.Change.{Change}
 use Rattle.px_xlog.specs.Log.{Log, IsLogOf}
 use Rattle.px_xlog.specs.Payload.{change_text, may_hold_all}
-use Rattle.px_xlog.specs.Reading.{Files, the_log, first_restart, second_restart, log_text, base_after, Scans, Says}
+use Rattle.px_standing.specs.Standing.{Files, first_restart, second_restart, base_after, Finds}
+use Rattle.px_xlog.specs.Contents.{the_log, log_text, Scans}
 use Rattle.px_told.specs.Changes.{stored_number, greatest_stored}
 use Rattle.px_told.specs.Commits.{commits_in}
 use Rattle.px_told.specs.Writes.{rows_in}
@@ -21,9 +22,10 @@ use Rattle.px_xlog.proofs.FramesOfChanges.{can_frames}
 use Rattle.px_logged.specs.Fitting.{Fits}
 use Rattle.px_logged.specs.Recounting.{Recounts}
 use Rattle.px_logged.proofs.Fitted.{fresh_fits}
-use Rattle.px_logged.proofs.Held.{base_within, commits_within}
+use Rattle.px_standing.proofs.Finding.{base_within, found_scan}
+use Rattle.px_logged.proofs.Held.{commits_within}
 use Rattle.px_logged.proofs.Recounted.{fresh_recounts}
-use Rattle.px_stored.specs.Stored.{RestartsRest, Stored}
+use Rattle.px_standing.specs.Stored.{RestartsRest, Stored}
 use Rattle.px_recovery.specs.Opening.{opened_machine}
 use Rattle.px_recovery.proofs.OneStore.{one_picked, one_scan}
 
@@ -88,15 +90,13 @@ module _ (restart : Restart) (changes : List Change) (log : Log) (before middle 
   few : length changes ≤ 2 ^ 48
   few = omega (arith, read.logged.count, read.small)
 
-  says_same : Says before.content restart changes → Says now.content restart changes
-  says_same says = record {
+  finds_same : Finds before.content restart changes → Finds now.content restart changes
+  finds_same finds = record {
     picked = still_picked;
-    scan = record {
-      scanned = ap (λ (bytes : List ℕ). frames_of bytes 0) read.left.content ∙ reads_again restart.tables changes read.scan.held few;
-      held = read.scan.held;
-      reached = read.scan.reached;
-    };
-    counted = says.counted;
+    scanned = ap (λ (bytes : List ℕ). frames_of bytes 0) read.left.content ∙ reads_again restart.tables changes read.scan.held few;
+    held = read.scan.held;
+    reached = read.scan.reached;
+    counted = finds.counted;
   }
 
   still_rest : RestartsRest now.now now.content
@@ -108,11 +108,11 @@ module _ (restart : Restart) (changes : List Change) (log : Log) (before middle 
   all_durable : take log.durable changes ≡ changes
   all_durable = take_all log.durable changes (omega (arith, read.durable, read.logged.count))
 
-  found_stored : (m : Machine) → m ≡ opened_machine restart changes → Says before.content restart changes → Stored restart changes log m now
-  found_stored m is says =
+  found_stored : (m : Machine) → m ≡ opened_machine restart changes → Finds before.content restart changes → Stored restart changes log m now
+  found_stored m is finds =
       let did : Recounts changes m = subst (λ (x : Machine). Recounts changes x) (sym is) (opened_recounts restart changes) in
       record {
-        says = says_same says;
+        finds = finds_same finds;
         log = read.logged;
         rests = still_rest;
         tables = read.tables;
@@ -121,11 +121,11 @@ module _ (restart : Restart) (changes : List Change) (log : Log) (before middle 
         did = did;
       }
 
-  -- whatever the files were said to say
-  pub opened_stored : (m : Machine) → m ≡ opened_machine restart changes → (said : Restart) (others : List Change) → Says before.content said others → Stored said others log m now
-  opened_stored m is said others says =
-      let one : restart ≡ said = one_picked (first_restart before.content) (second_restart before.content) restart said read.picked says.picked in
+  -- whatever is said to be found in the files
+  pub opened_stored : (m : Machine) → m ≡ opened_machine restart changes → (said : Restart) (others : List Change) → Finds before.content said others → Stored said others log m now
+  opened_stored m is said others finds =
+      let one : restart ≡ said = one_picked (first_restart before.content) (second_restart before.content) restart said read.picked finds.picked in
       let scan : Scans restart (before.content the_log) changes = subst (λ (files : Files). Scans restart (files the_log) changes) read.same read.scan in
-      let two : changes ≡ others = one_scan said (before.content the_log) changes others (subst (λ (r : Restart). Scans r (before.content the_log) changes) one scan) says.scan in
-      let here : Says before.content restart changes = subst (λ (cs : List Change). Says before.content restart cs) (sym two) (subst (λ (r : Restart). Says before.content r others) (sym one) says) in
+      let two : changes ≡ others = one_scan said (before.content the_log) changes others (subst (λ (r : Restart). Scans r (before.content the_log) changes) one scan) (found_scan before.content said others finds) in
+      let here : Finds before.content restart changes = subst (λ (cs : List Change). Finds before.content restart cs) (sym two) (subst (λ (r : Restart). Finds before.content r others) (sym one) finds) in
       subst (λ (cs : List Change). Stored said cs log m now) two (subst (λ (r : Restart). Stored r changes log m now) one (found_stored m is here))

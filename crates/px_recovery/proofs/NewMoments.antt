@@ -13,8 +13,11 @@ use Rattle.px_model.specs.declared.limits.TheConstants.{MOST_TABLES, SHORTEST_SH
 use Rattle.px_restart.specs.declared.text.TheConstants.{VERSION}
 use Rattle.px_restart.specs.Restart.{CanRestart, RestartAt, IsPicked, restart_text}
 use Rattle.px_restart.proofs.Restarts.{one_restart}
-use Rattle.px_xlog.specs.Images.{HasAt, WasWritten, IsPlainRestart, IsPlainLog, IsPlainImage, ImagesAreNew, CanMake, Settled}
-use Rattle.px_xlog.specs.Reading.{Files, the_log, StandsFor, HasNoRestart}
+use Rattle.px_xlog.specs.Written.{HasAt, WasWritten, IsPlainLog}
+use Rattle.px_standing.specs.Images.{IsPlainRestart, IsPlainImage, ImagesAreNew, CanMake}
+use Rattle.px_standing.specs.Settled.{Settled}
+use Rattle.px_standing.specs.Standing.{Files, StandsFor, HasNoRestart}
+use Rattle.px_xlog.specs.Contents.{the_log}
 use Rattle.px_xlog.proofs.AtRest.{image_of_rest}
 use Rattle.px_recovery.specs.Making.{first_file, second_file, first_saved, with_restart, IsFree, IsWritten, WritesFirstFile, StaysNew}
 use Rattle.px_recovery.proofs.Deciding.{decide_restart}
@@ -98,10 +101,12 @@ stands_alike : (image : Files) (w : List ℕ) (restart : Restart) → RestartAt 
 stands_alike image w restart in_image in_w stands = record {
   restart = stands.restart;
   changes = stands.changes;
-  says = record {
-    picked = picked_alike (image first_file) w (image second_file) restart stands.restart in_image in_w stands.says.picked;
-    scan = stands.says.scan;
-    counted = stands.says.counted;
+  finds = record {
+    picked = picked_alike (image first_file) w (image second_file) restart stands.restart in_image in_w stands.finds.picked;
+    scanned = stands.finds.scanned;
+    held = stands.finds.held;
+    reached = stands.finds.reached;
+    counted = stands.finds.counted;
   };
   commits_are = stands.commits_are;
   rows_are = stands.rows_are;

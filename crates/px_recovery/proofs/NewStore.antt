@@ -12,8 +12,11 @@ use Rattle.px_scan.specs.Scan.{frames, frames_of, frames_within}
 use Rattle.px_restart.specs.declared.restart.Restart.{Restart}
 use Rattle.px_restart.specs.declared.text.TheConstants.{VERSION}
 use Rattle.px_restart.specs.Restart.{CanRestart, RestartAt, restart_text}
-use Rattle.px_xlog.specs.Images.{HasAt, IsPlainRestart, IsPlainLog, IsPlainImage, CanMake, Settled, IsBehind}
-use Rattle.px_xlog.specs.Reading.{Files, the_log, StandsFor}
+use Rattle.px_xlog.specs.Written.{HasAt, IsPlainLog, IsBehind}
+use Rattle.px_standing.specs.Images.{IsPlainRestart, IsPlainImage, CanMake}
+use Rattle.px_standing.specs.Settled.{Settled}
+use Rattle.px_standing.specs.Standing.{Files, StandsFor}
+use Rattle.px_xlog.specs.Contents.{the_log}
 use Rattle.px_told.specs.Commits.{commits_in}
 use Rattle.px_told.specs.Writes.{rows_in}
 use Rattle.px_xlog.proofs.AtRest.{image_of_rest}
@@ -38,9 +41,11 @@ pub new_store : (tables short : ℕ) (image : Files) → RestartAt (image first_
 new_store tables short image at none empty = record {
   restart = first_saved tables short;
   changes = [];
-  says = record {
+  finds = record {
     picked = inl (at, λ restart other. absurd (none restart other));
-    scan = record { scanned = ap (λ (bytes : List ℕ). frames_of bytes 0) empty ∙ no_frames; held = refl; reached = omega arith };
+    scanned = ap (λ (bytes : List ℕ). frames_of bytes 0) empty ∙ no_frames;
+    held = refl;
+    reached = omega arith;
     counted = tt;
   };
   commits_are = no_commits;

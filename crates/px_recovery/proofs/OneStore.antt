@@ -6,7 +6,7 @@ use Rattle.px_restart.specs.Restart.{IsPicked}
 use Rattle.px_restart.proofs.Restarts.{one_restart}
 use Rattle.px_told.specs.declared.change.Change.{Change}
 use Rattle.px_xlog.specs.Payload.{change_text, may_hold, may_hold_all}
-use Rattle.px_xlog.specs.Reading.{Scans}
+use Rattle.px_xlog.specs.Contents.{Scans}
 use Rattle.px_xlog.proofs.FramesOfChanges.{may_be_written}
 use Rattle.px_xlog.proofs.OneChange.{one_change}
 

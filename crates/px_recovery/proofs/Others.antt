@@ -5,7 +5,7 @@ use Rattle.px_site.specs.declared.name.FileName.{FileName}
 use Rattle.px_site.specs.declared.name.FileName.TheVariants.{Rec, Row, Dlog, Xlog, Restart, Index, Ilog}
 use Rattle.px_site.specs.Names.{same_file, is_before, kind, number}
 use Rattle.px_site.specs.State.{IsNextFile}
-use Rattle.px_xlog.specs.Reading.{Files}
+use Rattle.px_standing.specs.Standing.{Files}
 use Rattle.px_recovery.specs.Making.{first_file, second_file, HasNoOthers, precedes}
 
 -- ---- names by kind and number

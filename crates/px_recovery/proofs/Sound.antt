@@ -1,14 +1,16 @@
--- A store that says something is neither absent nor damaged.
+-- A store in which something is found is neither absent nor damaged.
 use Rattle.std.proofs.Common.{◌≡◌, ◌≢◌, ℕ, ◌+◌, true, List, [], ◌∷◌, ◌++◌, length, map, drop, sym, ap, subst, ◌∙◌, inl, inr, arith}
 use Rattle.std.proofs.lemmas.Bool.{and_parts}
 use Rattle.px_restart.specs.declared.restart.Restart.{Restart}
 use Rattle.px_told.specs.declared.change.Change.{Change}
 use Rattle.px_xlog.specs.Payload.{change_text, may_hold, may_hold_all}
-use Rattle.px_xlog.specs.Reading.{Files, the_log, first_restart, second_restart, HasNoRestart, IsDamage, Says, Scans}
+use Rattle.px_standing.specs.Standing.{Files, first_restart, second_restart, HasNoRestart, Finds}
+use Rattle.px_xlog.specs.Contents.{the_log, IsDamage, Scans}
 use Rattle.px_xlog.proofs.FramesOfChanges.{length-map-text}
+use Rattle.px_standing.proofs.Finding.{found_scan}
 use Rattle.px_recovery.specs.Errors.{HasRefusal, IsPassing}
 use Rattle.px_recovery.specs.declared.error.OpenError.{OpenError}
-use Rattle.px_recovery.specs.declared.error.OpenError.TheVariants.{OutOfMemory, Fault as FaultOf, NoStore, Damaged, LogFull}
+use Rattle.px_recovery.specs.declared.error.OpenError.TheVariants.{OutOfMemory, Fault as FaultOf, NoStore, Damaged}
 use Rattle.px_recovery.proofs.OneStore.{first_text, one_picked}
 
 -- a payload among those of changes that may stand there is that of one
@@ -37,17 +39,16 @@ no_damage restart bytes changes place scan damage = elim damage as (λ _. ⊥) [
     zero_first : (before : List Change) (payload : List ℕ) → ((change : Change) → may_hold restart.tables (length before) change ≡ true → payload ≢ change_text change) → (change : Change) → may_hold restart.tables (0 + length before) change ≡ true → payload ≢ change_text change
     zero_first before payload none change may = let same : 0 + length before ≡ length before = omega arith in none change (subst (λ (n : ℕ). may_hold restart.tables n change ≡ true) same may)
 
-no_absence : (files : Files) (restart : Restart) (changes : List Change) → Says files restart changes → HasNoRestart files → ⊥
-no_absence files restart changes says none = elim says.picked as (λ _. ⊥) [
+no_absence : (files : Files) (restart : Restart) (changes : List Change) → Finds files restart changes → HasNoRestart files → ⊥
+no_absence files restart changes finds none = elim finds.picked as (λ _. ⊥) [
   | inl first ↦ none.first restart first.0
   | inr second ↦ none.second restart second.0
 ]
 
-pub only_passing : (files : Files) (restart : Restart) (changes : List Change) (error : OpenError) → Says files restart changes → HasRefusal files error → IsPassing error
-only_passing files restart changes OutOfMemory says refusal = tt
-only_passing files restart changes (FaultOf fault) says refusal = tt
-only_passing files restart changes NoStore says refusal = absurd (no_absence files restart changes says refusal)
-only_passing files restart changes (Damaged file place) says refusal =
-    let one : refusal.0 ≡ restart = one_picked (first_restart files) (second_restart files) refusal.0 restart refusal.2 says.picked in
-    absurd (no_damage restart (files the_log) changes place says.scan (subst (λ (r : Restart). IsDamage r (files the_log) place) one refusal.3))
-only_passing files restart changes (LogFull number) says refusal = absurd refusal
+pub only_passing : (files : Files) (restart : Restart) (changes : List Change) (error : OpenError) → Finds files restart changes → HasRefusal files error → IsPassing error
+only_passing files restart changes OutOfMemory finds refusal = tt
+only_passing files restart changes (FaultOf fault) finds refusal = tt
+only_passing files restart changes NoStore finds refusal = absurd (no_absence files restart changes finds refusal)
+only_passing files restart changes (Damaged file place) finds refusal =
+    let one : refusal.0 ≡ restart = one_picked (first_restart files) (second_restart files) refusal.0 restart refusal.2 finds.picked in
+    absurd (no_damage restart (files the_log) changes place (found_scan files restart changes finds) (subst (λ (r : Restart). IsDamage r (files the_log) place) one refusal.3))

@@ -5,16 +5,19 @@ use Rattle.px_site.specs.State.{State}
 use Rattle.px_site.specs.declared.error.Fault.TheVariants.{Tell}
 use Rattle.px_site.specs.declared.error.SiteError.{SiteError}
 use Rattle.px_site.specs.declared.error.SiteError.TheVariants.{OutOfMemory as Short, Fault as Failed}
+use Rattle.px_calls.specs.declared.status.Status.{Status}
+use Rattle.px_calls.specs.declared.status.Status.TheVariants.{NoStore as StatusNone, NotEmpty as StatusUsed, Damaged as StatusDamaged, DiskFault, OutOfMemory as StatusShort}
 use Rattle.px_restart.specs.declared.restart.Restart.{Restart}
 use Rattle.px_restart.specs.Restart.{IsPicked}
-use Rattle.px_xlog.specs.declared.error.LogError.{LogError}
-use Rattle.px_xlog.specs.declared.error.LogError.TheVariants.{OutOfMemory as LogShort, Fault as LogFailed, Damaged as LogDamaged, LogFull as LogAtEnd}
-use Rattle.px_xlog.specs.Reading.{Files, the_log, first_restart, second_restart, HasNoRestart, IsDamage}
+use Rattle.px_xlog.specs.declared.error.LogOpenError.{LogOpenError}
+use Rattle.px_xlog.specs.declared.error.LogOpenError.TheVariants.{OutOfMemory as LogShort, Fault as LogFailed, Damaged as LogDamaged}
+use Rattle.px_standing.specs.Standing.{Files, first_restart, second_restart, HasNoRestart}
+use Rattle.px_xlog.specs.Contents.{the_log, IsDamage}
 use Rattle.px_recovery.specs.Making.{IsFree}
 use Rattle.px_recovery.specs.declared.error.MakeError.{MakeError}
 use Rattle.px_recovery.specs.declared.error.MakeError.TheVariants.{OutOfMemory, Fault as FaultOf, NotEmpty}
 use Rattle.px_recovery.specs.declared.error.OpenError.{OpenError}
-use Rattle.px_recovery.specs.declared.error.OpenError.TheVariants.{OutOfMemory as OpenShort, Fault as OpenFault, NoStore, Damaged, LogFull}
+use Rattle.px_recovery.specs.declared.error.OpenError.TheVariants.{OutOfMemory as OpenShort, Fault as OpenFault, NoStore, Damaged}
 
 -- a fault is one of a file's
 abbrev pub IsOfFile : SiteError → Type 0
@@ -51,11 +54,10 @@ abbrev pub open_of_site : SiteError → OpenError
 open_of_site Short = OpenShort
 open_of_site (Failed fault) = OpenFault fault
 
-abbrev pub open_of_log : LogError → OpenError
+abbrev pub open_of_log : LogOpenError → OpenError
 open_of_log LogShort = OpenShort
 open_of_log (LogFailed fault) = OpenFault fault
 open_of_log (LogDamaged file place) = Damaged file place
-open_of_log (LogAtEnd number) = LogFull number
 
 -- what a refusal says of the files
 abbrev pub HasRefusal : Files → OpenError → Type 0
@@ -64,7 +66,6 @@ HasRefusal files (OpenFault fault) = ⊤
 HasRefusal files NoStore = HasNoRestart files
 HasRefusal files (Damaged file place) =
     (restart : Restart) × (file ≡ the_log) × IsPicked (first_restart files) (second_restart files) restart × IsDamage restart (files the_log) place
-HasRefusal files (LogFull number) = ⊥
 
 -- no refusal of what stands there: want of memory, or a fault of the site
 abbrev pub IsPassing : OpenError → Type 0
@@ -72,7 +73,6 @@ IsPassing OpenShort = ⊤
 IsPassing (OpenFault fault) = ⊤
 IsPassing NoStore = ⊥
 IsPassing (Damaged file place) = ⊥
-IsPassing (LogFull number) = ⊥
 
 -- a fault is one of a file's, and was counted
 abbrev pub CountsFault : Counts → Counts → OpenError → Type 0
@@ -80,7 +80,6 @@ CountsFault old new OpenShort = ⊤
 CountsFault old new (OpenFault fault) = (fault ≢ Tell) × Rose (old.faults fault) (new.faults fault)
 CountsFault old new NoStore = ⊤
 CountsFault old new (Damaged file place) = ⊤
-CountsFault old new (LogFull number) = ⊥
 
 -- a site without a store is left as it was, and a damaged one with all contents as they were
 abbrev pub KeepsContent : State → State → OpenError → Type 0
@@ -88,4 +87,16 @@ KeepsContent old new OpenShort = ⊤
 KeepsContent old new (OpenFault fault) = ⊤
 KeepsContent old new NoStore = new ≡ old
 KeepsContent old new (Damaged file place) = new.content ≡ old.content
-KeepsContent old new (LogFull number) = ⊥
+
+-- ---- the status by which an error ends a run
+
+abbrev pub status_of_make : MakeError → Status
+status_of_make OutOfMemory = StatusShort
+status_of_make (FaultOf fault) = DiskFault fault
+status_of_make NotEmpty = StatusUsed
+
+abbrev pub status_of_opening : OpenError → Status
+status_of_opening OpenShort = StatusShort
+status_of_opening (OpenFault fault) = DiskFault fault
+status_of_opening NoStore = StatusNone
+status_of_opening (Damaged file place) = StatusDamaged file place

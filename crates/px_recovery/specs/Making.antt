@@ -8,8 +8,8 @@ use Rattle.px_site.specs.State.{State, Moment, OnFile, Stands}
 use Rattle.px_restart.specs.declared.restart.Restart.{Restart}
 use Rattle.px_restart.specs.declared.text.TheConstants.{VERSION}
 use Rattle.px_restart.specs.Restart.{restart_text}
-use Rattle.px_xlog.specs.Images.{ImagesAreNew}
-use Rattle.px_xlog.specs.Reading.{Files, HasNoRestart}
+use Rattle.px_standing.specs.Images.{ImagesAreNew}
+use Rattle.px_standing.specs.Standing.{Files, HasNoRestart}
 
 abbrev pub first_file : FileName
 first_file = RestartFile 0

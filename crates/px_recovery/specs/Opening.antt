@@ -5,7 +5,8 @@ use Rattle.px_restart.specs.declared.restart.Restart.{Restart}
 use Rattle.px_restart.specs.Restart.{IsPicked}
 use Rattle.px_model.specs.Machine.{Machine, fresh}
 use Rattle.px_told.specs.declared.change.Change.{Change}
-use Rattle.px_xlog.specs.Reading.{Files, the_log, first_restart, second_restart, Scans, base_after}
+use Rattle.px_standing.specs.Standing.{Files, first_restart, second_restart, base_after}
+use Rattle.px_xlog.specs.Contents.{the_log, Scans}
 use Rattle.px_told.specs.Commits.{commits_in}
 use Rattle.px_told.specs.Writes.{rows_in}
 use Rattle.px_core.specs.Core.{Kept}

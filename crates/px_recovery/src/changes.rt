@@ -2,7 +2,7 @@
 ghost use Rattle.std.specs.Prelude.{◌≡◌, ℕ, nat_eq, unwrap_or, [], IfOk, OnOk};
 ghost use Rattle.std.specs.HashMap.{get};
 ghost use Rattle.px_model.specs.Rows.{after};
-ghost use Rattle.px_xlog.specs.Reading.{base_after};
+ghost use Rattle.px_standing.specs.Standing.{base_after};
 ghost use Rattle.px_told.specs.Commits.{commits_in};
 ghost use Rattle.px_told.specs.Writes.{rows_in, writes_of};
 ghost use Rattle.px_told.specs.Changes.{stored_number};
@@ -16,7 +16,7 @@ use std::alloc::{AllocError, Global};
 use std::collections::HashMap;
 
 /// How many transactions have committed.
-#[tactic(auto, unfolding(px_xlog::specs::Reading::commits_in))]
+#[tactic(auto, unfolding(px_told::specs::Commits::commits_in))]
 pub(crate) fn commits_of(changes: &[Change]) -> u64
     ensures { result ≡ commits_in changes.now }
 {
@@ -33,7 +33,7 @@ pub(crate) fn commits_of(changes: &[Change]) -> u64
 ///
 /// At a Commit only the changes from its transaction's first write on are gone through: a log has many transactions, most
 /// of which are short.
-#[tactic(auto, unfolding(px_xlog::specs::Reading::rows_in))]
+#[tactic(auto, unfolding(px_told::specs::Writes::rows_in))]
 pub(crate) fn rows_of(alloc: Global, changes: &[Change]) -> Result<RowList, AllocError>
     ensures { IfOk result (λ rows. rows ≡ rows_in changes.now) }
 {
@@ -86,7 +86,7 @@ fn apply_writes_of(rows: &mut Vec<Row>, xn: u64, changes: &[Change]) -> Result<(
 }
 
 /// The number before that of the next run's first transaction: no number that was given out is greater.
-#[tactic(auto, unfolding(px_xlog::specs::Reading::base_after))]
+#[tactic(auto, unfolding(px_standing::specs::Standing::base_after))]
 pub(crate) fn base_of(restart: &Restart, changes: &[Change]) -> u64
     ensures { result ≡ base_after restart.now changes.now }
 {

@@ -1,20 +1,25 @@
 // Why a store isn't made, or isn't opened.
 ghost use Rattle.std.specs.Prelude.{◌≡◌};
-ghost use Rattle.px_recovery.specs.Errors.{of_site, open_of_log, open_of_site};
+ghost use Rattle.px_recovery.specs.Errors.{of_site, open_of_log, open_of_site, status_of_make, status_of_opening};
 ghost use Rattle.px_recovery.specs.declared.error.OpenError.TheVariants.{OutOfMemory};
 
+use px_calls::Status;
 use px_site::{Fault, FileName, SiteError};
-use px_xlog::LogError;
+use px_xlog::LogOpenError;
 use std::alloc::AllocError;
+use thiserror::Error;
 
 /// Why a store isn't made.
-#[derive(Clone, Copy, Debug, PartialEq, Eq)]
+#[derive(Clone, Copy, Debug, PartialEq, Eq, Error)]
 pub enum MakeError {
     /// The site wanted memory.
+    #[error("out of memory")]
     OutOfMemory,
     /// A call of the site failed.
+    #[error("a file call failed: {0:?}")]
     Fault(Fault),
     /// The site has a file already, or a restart.
+    #[error("a store or another file is here already")]
     NotEmpty,
 }
 
@@ -29,19 +34,33 @@ impl From<SiteError> for MakeError {
     }
 }
 
+impl From<MakeError> for Status {
+    ghost from_gives = { λ error status. status ≡ status_of_make error };
+
+    fn from(error: MakeError) -> Status {
+        match error {
+            MakeError::OutOfMemory => Status::OutOfMemory,
+            MakeError::Fault(fault) => Status::DiskFault(fault),
+            MakeError::NotEmpty => Status::NotEmpty,
+        }
+    }
+}
+
 /// Why a store isn't opened.
-#[derive(Clone, Copy, Debug, PartialEq, Eq)]
+#[derive(Clone, Copy, Debug, PartialEq, Eq, Error)]
 pub enum OpenError {
     /// The opening, or the site in it, wanted memory.
+    #[error("out of memory")]
     OutOfMemory,
     /// A call of the site failed.
+    #[error("a file call failed: {0:?}")]
     Fault(Fault),
     /// Neither restart file checks: no store is here.
+    #[error("no store is here")]
     NoStore,
     /// What stands at this place of this file isn't what the store may have there.
+    #[error("damaged at byte {place} of {file:?}")]
     Damaged { file: FileName, place: u64 },
-    /// The log takes no frame with this number. No opening answers it yet.
-    LogFull(u64),
 }
 
 impl From<SiteError> for OpenError {
@@ -55,15 +74,14 @@ impl From<SiteError> for OpenError {
     }
 }
 
-impl From<LogError> for OpenError {
+impl From<LogOpenError> for OpenError {
     ghost from_gives = { λ error e. e ≡ open_of_log error };
 
-    fn from(error: LogError) -> OpenError {
+    fn from(error: LogOpenError) -> OpenError {
         match error {
-            LogError::OutOfMemory => OpenError::OutOfMemory,
-            LogError::Fault(fault) => OpenError::Fault(fault),
-            LogError::Damaged { file, place } => OpenError::Damaged { file, place },
-            LogError::LogFull(number) => OpenError::LogFull(number),
+            LogOpenError::OutOfMemory => OpenError::OutOfMemory,
+            LogOpenError::Fault(fault) => OpenError::Fault(fault),
+            LogOpenError::Damaged { file, place } => OpenError::Damaged { file, place },
         }
     }
 }
@@ -73,5 +91,18 @@ impl From<AllocError> for OpenError {
 
     fn from(_error: AllocError) -> OpenError {
         OpenError::OutOfMemory
+    }
+}
+
+impl From<OpenError> for Status {
+    ghost from_gives = { λ error status. status ≡ status_of_opening error };
+
+    fn from(error: OpenError) -> Status {
+        match error {
+            OpenError::OutOfMemory => Status::OutOfMemory,
+            OpenError::Fault(fault) => Status::DiskFault(fault),
+            OpenError::NoStore => Status::NoStore,
+            OpenError::Damaged { file, place } => Status::Damaged { file, place },
+        }
     }
 }

@@ -5,7 +5,8 @@ ghost use Rattle.px_site.specs.Names.{same_file};
 ghost use Rattle.px_site.specs.State.{EachMoment};
 ghost use Rattle.px_site.specs.declared.name.FileName.{FileName};
 ghost use Rattle.px_restart.specs.Restart.{CanRestart};
-ghost use Rattle.px_xlog.specs.Images.{CanMake, Settled};
+ghost use Rattle.px_standing.specs.Images.{CanMake};
+ghost use Rattle.px_standing.specs.Settled.{Settled};
 ghost use Rattle.px_recovery.specs.Errors.{HasMakeCause, IsOfFile, MakesFileFault, RefusesUsed};
 ghost use Rattle.px_recovery.specs.Making.{HasNoOthers, IsFree, IsMade, IsWritten, StaysNew, WritesFirstFile, first_file, first_saved, precedes};
 

@@ -6,11 +6,12 @@ ghost use Rattle.px_restart.specs.declared.restart.Restart.{Restart};
 ghost use Rattle.px_restart.specs.Restart.{CanRestart};
 ghost use Rattle.px_model.specs.declared.row.Row.{Row};
 ghost use Rattle.px_told.specs.declared.change.Change.{Change};
-ghost use Rattle.px_xlog.specs.Images.{KeepsStanding, Settled};
+ghost use Rattle.px_standing.specs.Images.{KeepsStanding};
+ghost use Rattle.px_standing.specs.Settled.{Settled};
 ghost use Rattle.px_xlog.specs.Payload.{may_hold_all};
-ghost use Rattle.px_xlog.specs.Reading.{Says};
+ghost use Rattle.px_standing.specs.Standing.{Finds};
 ghost use Rattle.px_logged.specs.Fitting.{Fits};
-ghost use Rattle.px_stored.specs.Stored.{Stored};
+ghost use Rattle.px_standing.specs.Stored.{Stored};
 ghost use Rattle.px_recovery.specs.Errors.{CountsFault, HasRefusal, IsPassing, KeepsContent};
 ghost use Rattle.px_recovery.specs.Opening.{OpensAs, TellsNothing, core_of, opened_machine, report_of, site_after};
 
@@ -64,14 +65,14 @@ pub fn open_store<W: Site>(alloc: Global, site: W) -> Result<Opened<W>, NotOpene
     ensures whole { IfOk result (λ opened. opened.core.error ≡ None) }
     ensures opened { W.tells → IfOk result (λ opened. OpensAs (W.state site).content opened.core opened.report) }
     ensures stored { W.tells → (restart : Restart) (changes : List Change) (commits : ℕ) (rows : List Row)
-        → Says (W.state site).content restart changes → Settled (W.state site) commits rows
+        → Finds (W.state site).content restart changes → Settled (W.state site) commits rows
         → IfOk result (λ opened. Stored restart changes opened.core.log opened.core.machine (W.state opened.core.site)) }
     ensures moments { W.tells → (commits : ℕ) (rows : List Row) → Settled (W.state site) commits rows
         → EachMoment (KeepsStanding commits rows (W.state site).now) (W.state site) (W.state (site_after result)) }
     ensures quiet { W.tells → EachMoment (TellsNothing (W.state site).now) (W.state site) (W.state (site_after result)) }
     ensures told { W.tells → (W.state (site_after result)).now.told ≡ (W.state site).now.told }
     ensures refused { W.tells → IfErr result (λ refused. HasRefusal (W.state site).content refused.error) }
-    ensures sound { W.tells → (restart : Restart) (changes : List Change) → Says (W.state site).content restart changes
+    ensures sound { W.tells → (restart : Restart) (changes : List Change) → Finds (W.state site).content restart changes
         → IfErr result (λ refused. IsPassing refused.error) }
     ensures kept { W.tells → IfErr result (λ refused. KeepsContent (W.state site) (W.state refused.site) refused.error) }
     ensures fault { IfErr result (λ refused. CountsFault (W.counts site) (W.counts refused.site) refused.error) }
@@ -113,7 +114,7 @@ impl Parts {
 // over a log that was cut for the other one.
 fn open_parts<W: Site>(alloc: Global, site: &mut W) -> Result<Parts, OpenError>
     ensures opened { W.tells → IfOk result (λ parts. (over : W) → OpensAs (W.state site.old).content (core_of over parts) parts.report) }
-    ensures stored { W.tells → (restart : Restart) (changes : List Change) → Says (W.state site.old).content restart changes
+    ensures stored { W.tells → (restart : Restart) (changes : List Change) → Finds (W.state site.old).content restart changes
         → IfOk result (λ parts. Stored restart changes parts.log parts.machine (W.state site.new)) }
     ensures fits { IfOk result (λ parts. Fits parts.machine parts.log) }
     ensures numbered { IfOk result (λ parts. parts.log.frames ≤ 2 ^ 48) }

@@ -4,9 +4,10 @@ ghost use Rattle.px_site.specs.Cause.{HasCause, NoneFell};
 ghost use Rattle.px_site.specs.State.{EachMoment};
 ghost use Rattle.px_restart.specs.Restart.{CanRestart, IsPicked};
 ghost use Rattle.px_model.specs.declared.row.Row.{Row};
-ghost use Rattle.px_xlog.specs.Images.{KeepsStanding, Settled};
-ghost use Rattle.px_xlog.specs.Reading.{HasNoRestart, first_restart, second_restart};
-ghost use Rattle.px_stored.specs.Stored.{RestartsRest};
+ghost use Rattle.px_standing.specs.Images.{KeepsStanding};
+ghost use Rattle.px_standing.specs.Settled.{Settled};
+ghost use Rattle.px_standing.specs.Standing.{HasNoRestart, first_restart, second_restart};
+ghost use Rattle.px_standing.specs.Stored.{RestartsRest};
 ghost use Rattle.px_recovery.specs.Errors.{IsOfFile};
 ghost use Rattle.px_recovery.specs.Opening.{TellsNothing};
 

@@ -7,10 +7,13 @@ use Rattle.px_site.specs.State.{State, Moment}
 use Rattle.px_restart.specs.declared.restart.Restart.{Restart}
 use Rattle.px_model.specs.declared.row.Row.{Row}
 use Rattle.px_told.specs.declared.change.Change.{Change}
-use Rattle.px_xlog.specs.Reading.{Files, the_log, Says}
+use Rattle.px_standing.specs.Standing.{Files, Finds}
+use Rattle.px_xlog.specs.Contents.{the_log}
 use Rattle.px_told.specs.Commits.{commits_in}
 use Rattle.px_told.specs.Writes.{rows_in}
-use Rattle.px_xlog.specs.Images.{IsPlainImage, ImagesStandFor, ImagesAreNew, IsBehind, Settled, IsSettledStore}
+use Rattle.px_standing.specs.Images.{IsPlainImage, ImagesStandFor, ImagesAreNew}
+use Rattle.px_xlog.specs.Written.{IsBehind}
+use Rattle.px_standing.specs.Settled.{Settled, IsSettledStore}
 
 -- what a crash may leave depends on the files alone
 pub plain_alike : (a b : Moment) (image : Files) → b.files ≡ a.files → IsPlainImage b image → IsPlainImage a image
@@ -34,6 +37,6 @@ settled_alike a b commits rows content files settled = record {
 
 pub store_alike : (restart : Restart) (changes : List Change) (a b : State) → b.content ≡ a.content → b.now.files ≡ a.now.files → IsSettledStore restart changes a → IsSettledStore restart changes b
 store_alike restart changes a b content files store = record {
-  says = subst (λ (c : Files). Says c restart changes) (sym content) store.says;
+  finds = subst (λ (c : Files). Finds c restart changes) (sym content) store.finds;
   settled = settled_alike a b (commits_in changes) (rows_in changes) content files store.settled;
 }

@@ -14,7 +14,8 @@ use Rattle.px_calls.specs.Closing.{closing_line}
 use Rattle.px_told.specs.declared.change.Change.{Change}
 use Rattle.px_told.specs.Commits.{commits_in}
 use Rattle.px_told.specs.Writes.{rows_in}
-use Rattle.px_xlog.specs.Images.{CanMake, ImagesAreNew, ImagesStandFor, IsSettledStore}
+use Rattle.px_standing.specs.Images.{CanMake, ImagesAreNew, ImagesStandFor}
+use Rattle.px_standing.specs.Settled.{IsSettledStore}
 use Rattle.px_recovery.specs.Making.{first_file}
 use Rattle.px_recovery.proofs.Quiet.{last_moment}
 use Rattle.px_play.specs.Input.{script_of}

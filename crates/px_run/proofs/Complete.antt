@@ -16,7 +16,7 @@ use Rattle.px_machine_laws.proofs.EveryHistory.{first_committer_wins}
 use Rattle.px_script.specs.Grammar.{command_line}
 use Rattle.px_script.specs.Lines.{complete_after, rest_after, complete_lines, open_line, last_line, lines_at_end}
 use Rattle.px_told.specs.declared.change.Change.{Change}
-use Rattle.px_xlog.specs.Reading.{Files, first_restart, second_restart, base_after}
+use Rattle.px_standing.specs.Standing.{Files, first_restart, second_restart, base_after}
 use Rattle.px_told.specs.Commits.{commits_in}
 use Rattle.px_told.specs.Writes.{rows_in}
 use Rattle.px_logged.specs.Logged.{logged, logged_by_all}

@@ -8,12 +8,13 @@ use Rattle.px_calls.specs.declared.status.Status.{Status}
 use Rattle.px_calls.specs.declared.status.Status.TheVariants.{Done, DiskFault, OutOfMemory}
 use Rattle.px_told.specs.declared.change.Change.{Change}
 use Rattle.px_told.specs.Writes.{rows_in}
-use Rattle.px_xlog.specs.Images.{ImagesStandFor, IsSettledStore, KeepsStanding}
+use Rattle.px_standing.specs.Images.{ImagesStandFor, KeepsStanding}
+use Rattle.px_standing.specs.Settled.{IsSettledStore}
 use Rattle.px_recovery.specs.declared.error.OpenError.{OpenError}
-use Rattle.px_recovery.specs.declared.error.OpenError.TheVariants.{OutOfMemory as OpenShort, Fault as OpenFault, NoStore as NoneThere, Damaged as BadPlace, LogFull as LogAtEnd}
+use Rattle.px_recovery.specs.declared.error.OpenError.TheVariants.{OutOfMemory as OpenShort, Fault as OpenFault, NoStore as NoneThere, Damaged as BadPlace}
 use Rattle.px_recovery.specs.Errors.{HasRefusal}
 use Rattle.px_run.specs.Dumping.{OnDone, ShowsStore, dump_pieces}
-use Rattle.px_run.specs.Statuses.{status_of_opening}
+use Rattle.px_recovery.specs.Errors.{status_of_opening}
 use Rattle.px_run.specs.Working.{DumpsRows, OnlyTells, TellsRows}
 use Rattle.px_run.proofs.Alike.{stand_alike, store_alike}
 use Rattle.px_run.proofs.Opening.{not_without_restart, shown_whole}
@@ -47,7 +48,6 @@ undumped restart changes a b (OpenFault fault) shows quiet refusal = record {
 }
 undumped restart changes a b NoneThere shows quiet refusal = absurd (not_without_restart a.content restart shows.picked refusal)
 undumped restart changes a b (BadPlace file place) shows quiet refusal = absurd (shown_whole restart changes a.content file place shows refusal)
-undumped restart changes a b (LogAtEnd n) shows quiet refusal = absurd refusal
 
 -- ---- at each moment
 

@@ -18,8 +18,8 @@ use Rattle.px_calls.specs.Closing.{closing_line}
 use Rattle.px_calls.specs.Texts.{numbered, reply_text}
 use Rattle.px_script.specs.Lines.{open_line}
 use Rattle.px_told.specs.declared.change.Change.{Change}
-use Rattle.px_xlog.specs.Images.{IsSettledStore}
-use Rattle.px_stored.proofs.Standing.{last_moment}
+use Rattle.px_standing.specs.Settled.{IsSettledStore}
+use Rattle.px_standing.proofs.Standing.{last_moment}
 use Rattle.px_recovery.specs.Opening.{opened_machine}
 use Rattle.px_play.specs.Acknowledged.{HoldsAcknowledged, KeepsAcknowledged, acknowledged}
 use Rattle.px_play.specs.Input.{script_of}

@@ -9,8 +9,9 @@ use Rattle.px_site.specs.State.{State, Moment, EachMoment, Tells, spoke, telling
 use Rattle.px_site.proofs.Moments.{same_moment, tell_moments, then_moments, weaker_moments}
 use Rattle.px_calls.specs.declared.status.Status.TheVariants.{Done, OutOfMemory, DiskFault, NotEmpty}
 use Rattle.px_calls.specs.Texts.{made_line}
-use Rattle.px_xlog.specs.Images.{CanMake, ImagesAreNew, Settled}
-use Rattle.px_stored.proofs.Standing.{last_moment}
+use Rattle.px_standing.specs.Images.{CanMake, ImagesAreNew}
+use Rattle.px_standing.specs.Settled.{Settled}
+use Rattle.px_standing.proofs.Standing.{last_moment}
 use Rattle.px_recovery.specs.declared.error.MakeError.{MakeError}
 use Rattle.px_recovery.specs.declared.error.MakeError.TheVariants.{OutOfMemory as MakeShort, Fault as MakeFault, NotEmpty as MakeUsed}
 use Rattle.px_recovery.specs.Errors.{HasMakeCause, MakesFileFault, RefusesUsed}
@@ -18,7 +19,8 @@ use Rattle.px_recovery.specs.Making.{IsFree, IsMade, StaysNew, WritesFirstFile, 
 use Rattle.px_run.specs.declared.command.Command.TheVariants.{Make}
 use Rattle.px_run.specs.Causes.{HasStatusCause}
 use Rattle.px_run.specs.Making.{Made, made_pieces}
-use Rattle.px_run.specs.Statuses.{status_of_make, status_of_tell}
+use Rattle.px_play.specs.Told.{status_of_tell}
+use Rattle.px_recovery.specs.Errors.{status_of_make}
 use Rattle.px_run.specs.Working.{MakesStore, OnlyTells}
 use Rattle.px_run.proofs.Alike.{new_alike, settled_alike}
 use Rattle.px_run.proofs.Pieces.{only_spoke, told_nothing}

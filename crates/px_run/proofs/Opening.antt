@@ -13,11 +13,13 @@ use Rattle.px_calls.specs.declared.status.Status.{Status}
 use Rattle.px_told.specs.declared.change.Change.{Change}
 use Rattle.px_xlog.specs.Log.{Log}
 use Rattle.px_xlog.specs.Payload.{change_text, may_hold, may_hold_all}
-use Rattle.px_xlog.specs.Reading.{Files, the_log, first_restart, second_restart, HasNoRestart, IsDamage, Scans}
+use Rattle.px_standing.specs.Standing.{Files, first_restart, second_restart, HasNoRestart}
+use Rattle.px_xlog.specs.Contents.{the_log, IsDamage, Scans}
 use Rattle.px_told.specs.Writes.{rows_in}
-use Rattle.px_xlog.specs.Images.{IsSettledStore}
-use Rattle.px_stored.specs.Stored.{ReadsImages, Stored}
-use Rattle.px_stored.proofs.Settling.{stored_settled}
+use Rattle.px_standing.specs.Settled.{IsSettledStore}
+use Rattle.px_standing.specs.Stored.{ReadsImages, Stored}
+use Rattle.px_standing.proofs.Settling.{stored_settled}
+use Rattle.px_standing.proofs.Finding.{found_scan}
 use Rattle.px_logged.specs.Recounting.{rows_now}
 use Rattle.px_core.specs.Core.{Kept}
 use Rattle.px_recovery.specs.declared.opening.OpenReport.{OpenReport}
@@ -108,11 +110,11 @@ frames_fit number (payload ∷ payloads) can fits = omega (arith, frames_fit (nu
 -- the frames were read, so each has its number
 few_frames : (restart : Restart) (changes : List Change) (log : Log) (m : Machine) (s : State) → Stored restart changes log m s → log.frames ≤ 2 ^ 48
 few_frames restart changes log m s stored =
-    let can = subst (CanFrames 0) stored.says.scan.scanned (is_scan (s.content the_log) 0).1.can in
+    let can = subst (CanFrames 0) stored.finds.scanned (is_scan (s.content the_log) 0).1.can in
     omega (arith, frames_fit 0 (map change_text changes) can (omega arith), stored.log.count, length-map changes change_text)
 
 pub settles : (restart : Restart) (changes : List Change) (log : Log) (m : Machine) (s : State) → ReadsImages s → Stored restart changes log m s → IsSettledStore restart changes s
 settles restart changes log m s reads stored = stored_settled restart changes log m s (few_frames restart changes log m s stored) reads stored
 
 pub settled_shows : (restart : Restart) (changes : List Change) (s : State) → IsSettledStore restart changes s → ShowsStore restart changes s.content
-settled_shows restart changes s store = record { picked = store.says.picked; scan = store.says.scan }
+settled_shows restart changes s store = record { picked = store.finds.picked; scan = found_scan s.content restart changes store.finds }

@@ -8,12 +8,12 @@ use Rattle.px_calls.specs.declared.call.Call.{Call}
 use Rattle.px_calls.specs.Texts.{numbered, opened_line}
 use Rattle.px_script.specs.Lines.{complete_lines}
 use Rattle.px_told.specs.declared.change.Change.{Change}
-use Rattle.px_xlog.specs.Reading.{Files, StandsFor}
+use Rattle.px_standing.specs.Standing.{Files, StandsFor}
 use Rattle.px_told.specs.Commits.{commits_in}
 use Rattle.px_told.specs.Writes.{rows_in}
-use Rattle.px_xlog.specs.Images.{IsPlainImage, KeepsStanding}
+use Rattle.px_standing.specs.Images.{IsPlainImage, KeepsStanding}
 use Rattle.px_logged.specs.Recounting.{rows_now}
-use Rattle.px_stored.specs.Stored.{HasCommitted}
+use Rattle.px_standing.specs.Images.{HasCommitted}
 use Rattle.px_recovery.specs.Opening.{opened_machine}
 use Rattle.px_recovery.proofs.Found.{opened_recounts}
 use Rattle.px_play.specs.Acknowledged.{HoldsAcknowledged, KeepsAcknowledged, acknowledged}

@@ -11,18 +11,18 @@ use Rattle.px_calls.specs.declared.status.Status.{Status}
 use Rattle.px_calls.specs.declared.status.Status.TheVariants.{Done, BadLine, DiskFault, SourceFault, OutputFault, OutOfMemory, LogFull, TooLong}
 use Rattle.px_calls.specs.Texts.{opened_line}
 use Rattle.px_told.specs.declared.change.Change.{Change}
-use Rattle.px_xlog.specs.Reading.{StandsFor}
+use Rattle.px_standing.specs.Standing.{StandsFor}
 use Rattle.px_told.specs.Commits.{commits_in}
 use Rattle.px_told.specs.Writes.{rows_in}
-use Rattle.px_xlog.specs.Images.{KeepsStanding}
+use Rattle.px_standing.specs.Images.{KeepsStanding}
 use Rattle.px_xlog.specs.Log.{Log, most_frames}
 use Rattle.px_logged.specs.Logged.{logged_by_all}
 use Rattle.px_logged.specs.Recounting.{rows_now}
-use Rattle.px_stored.specs.Stored.{ReadsImages, Stored}
+use Rattle.px_standing.specs.Stored.{ReadsImages, Stored}
 use Rattle.px_core.specs.Core.{Kept}
 use Rattle.px_recovery.specs.declared.opening.OpenReport.{OpenReport}
 use Rattle.px_recovery.specs.declared.error.OpenError.{OpenError}
-use Rattle.px_recovery.specs.declared.error.OpenError.TheVariants.{OutOfMemory as OpenShort, Fault as OpenFault, NoStore as NoneThere, Damaged as BadPlace, LogFull as LogAtEnd}
+use Rattle.px_recovery.specs.declared.error.OpenError.TheVariants.{OutOfMemory as OpenShort, Fault as OpenFault, NoStore as NoneThere, Damaged as BadPlace}
 use Rattle.px_recovery.specs.Errors.{HasRefusal}
 use Rattle.px_recovery.specs.Opening.{opened_machine, report_of}
 use Rattle.px_play.specs.Acknowledged.{HoldsAcknowledged, KeepsAcknowledged}
@@ -33,7 +33,7 @@ use Rattle.px_play.proofs.Replies.{quiet_acknowledged}
 use Rattle.px_play.proofs.Stays.{stored_image, stored_spoke}
 use Rattle.px_run.specs.Running.{HasAll, RunEnds, log_after, machine_after, opening_line, run_pieces}
 use Rattle.px_run.specs.Dumping.{ShowsStore}
-use Rattle.px_run.specs.Statuses.{status_of_opening}
+use Rattle.px_recovery.specs.Errors.{status_of_opening}
 use Rattle.px_run.specs.Working.{RunsScript, TellsPiece}
 use Rattle.px_run.proofs.Opening.{not_without_restart, settles, shown_whole}
 use Rattle.px_run.proofs.Pieces.{piece_moments, told_behind, told_from, told_nothing}
@@ -192,7 +192,6 @@ unopened restart changes input a b OpenShort shows quiet refusal = not_opened re
 unopened restart changes input a b (OpenFault fault) shows quiet refusal = not_opened restart changes input a b (DiskFault fault) (omega arith) tt quiet
 unopened restart changes input a b NoneThere shows quiet refusal = absurd (not_without_restart a.content restart shows.picked refusal)
 unopened restart changes input a b (BadPlace file place) shows quiet refusal = absurd (shown_whole restart changes a.content file place shows refusal)
-unopened restart changes input a b (LogAtEnd n) shows quiet refusal = absurd refusal
 
 pub opening_acknowledged : (restart : Restart) (changes : List Change) (calls : List (ℕ × Call)) (a b : State) → EachMoment (KeepsStanding (commits_in changes) (rows_in changes) a.now) a b
     → EachMoment (KeepsAcknowledged (machine_after restart changes calls) a.now.told) a b

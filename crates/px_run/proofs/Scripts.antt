@@ -15,15 +15,15 @@ use Rattle.px_calls.specs.Histories.{state_after_all}
 use Rattle.px_calls.specs.Texts.{numbered, opened_line}
 use Rattle.px_script.specs.Lines.{complete_lines}
 use Rattle.px_told.specs.declared.change.Change.{Change}
-use Rattle.px_xlog.specs.Reading.{Files, StandsFor}
+use Rattle.px_standing.specs.Standing.{Files, StandsFor}
 use Rattle.px_told.specs.Commits.{commits_in}
 use Rattle.px_told.specs.Writes.{rows_in}
-use Rattle.px_xlog.specs.Images.{ImagesStandFor, KeepsStanding}
+use Rattle.px_standing.specs.Images.{ImagesStandFor, KeepsStanding}
 use Rattle.px_xlog.specs.Log.{Log, most_frames}
 use Rattle.px_logged.specs.Logged.{logged_by_all}
 use Rattle.px_logged.specs.Recounting.{rows_now}
 use Rattle.px_logged.proofs.Grown.{opening_stays, commits_rise, published_stays}
-use Rattle.px_stored.specs.Stored.{Stored, ReadsImages}
+use Rattle.px_standing.specs.Stored.{Stored, ReadsImages}
 use Rattle.px_core.specs.Core.{Kept}
 use Rattle.px_recovery.specs.declared.opening.OpenReport.{OpenReport}
 use Rattle.px_recovery.specs.declared.error.OpenError.{OpenError}
@@ -38,7 +38,7 @@ use Rattle.px_play.proofs.Replies.{IsQuiet, line_quiet, quiet_acknowledged}
 use Rattle.px_play.proofs.Stays.{stored_image, stored_spoke}
 use Rattle.px_play.proofs.Words.{no_feed, no_feed_both, decimal_no_feed}
 use Rattle.px_run.specs.Running.{HasAll, RunEnds, log_after, machine_after, opening_line, run_pieces}
-use Rattle.px_run.specs.Statuses.{status_of_opening}
+use Rattle.px_recovery.specs.Errors.{status_of_opening}
 use Rattle.px_run.specs.Working.{RunsScript, TellsPiece}
 use Rattle.px_run.proofs.Alike.{stand_alike}
 use Rattle.px_run.proofs.Opening.{settles}

@@ -9,7 +9,8 @@ use Rattle.px_restart.specs.declared.restart.Restart.{Restart}
 use Rattle.px_restart.specs.Restart.{IsPicked}
 use Rattle.px_calls.specs.declared.status.Status.{Status}
 use Rattle.px_calls.specs.declared.status.Status.TheVariants.{Done, Usage, BadLine, NoStore, NotEmpty, Damaged, DiskFault, SourceFault, OutputFault, OutOfMemory, LogFull, TooLong}
-use Rattle.px_xlog.specs.Reading.{Files, the_log, first_restart, second_restart, HasNoRestart, IsDamage}
+use Rattle.px_standing.specs.Standing.{Files, first_restart, second_restart, HasNoRestart}
+use Rattle.px_xlog.specs.Contents.{the_log, IsDamage}
 use Rattle.px_xlog.specs.Log.{most_frames}
 use Rattle.px_run.specs.declared.command.Command.{Command}
 use Rattle.px_run.specs.declared.command.Command.TheVariants.{Run}

@@ -9,9 +9,10 @@ use Rattle.px_calls.specs.declared.status.Status.{Status}
 use Rattle.px_calls.specs.declared.status.Status.TheVariants.{Done, DiskFault, OutputFault, OutOfMemory}
 use Rattle.px_calls.specs.Texts.{count_line, row_line}
 use Rattle.px_told.specs.declared.change.Change.{Change}
-use Rattle.px_xlog.specs.Reading.{Files, the_log, first_restart, second_restart, Scans}
+use Rattle.px_standing.specs.Standing.{Files, first_restart, second_restart}
+use Rattle.px_xlog.specs.Contents.{the_log, Scans}
 use Rattle.px_told.specs.Writes.{rows_in}
-use Rattle.px_xlog.specs.Images.{IsSettledStore}
+use Rattle.px_standing.specs.Settled.{IsSettledStore}
 use Rattle.px_run.specs.Told.{TellsInAll}
 
 -- the files show this store, whatever a crash would leave of it

@@ -5,6 +5,5 @@ pub mod Examples
 pub mod Making
 pub mod Premises
 pub mod Running
-pub mod Statuses
 pub mod Told
 pub mod Working

@@ -10,7 +10,7 @@ use Rattle.px_script.specs.Lines.{lines_at_end}
 use Rattle.px_script.specs.Progress.{longest_input}
 use Rattle.px_told.specs.declared.change.Change.{Change}
 use Rattle.px_xlog.specs.Log.{most_frames}
-use Rattle.px_xlog.specs.Reading.{Files}
+use Rattle.px_standing.specs.Standing.{Files}
 use Rattle.px_recovery.specs.Opening.{opened_machine}
 use Rattle.px_play.specs.Input.{AreCommands, script_of}
 use Rattle.px_play.specs.Playing.{changes_after}

@@ -13,7 +13,7 @@ use Rattle.px_script.specs.Lines.{complete_lines, lines_at_end}
 use Rattle.px_told.specs.declared.change.Change.{Change}
 use Rattle.px_told.specs.Commits.{commits_in}
 use Rattle.px_told.specs.Writes.{rows_in}
-use Rattle.px_xlog.specs.Images.{IsSettledStore}
+use Rattle.px_standing.specs.Settled.{IsSettledStore}
 use Rattle.px_xlog.specs.Log.{most_frames}
 use Rattle.px_logged.specs.Logged.{logged_by_all}
 use Rattle.px_logged.specs.Recounting.{rows_now}

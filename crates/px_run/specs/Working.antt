@@ -10,7 +10,7 @@ use Rattle.px_calls.specs.Closing.{closing_line}
 use Rattle.px_calls.specs.Texts.{row_line}
 use Rattle.px_script.specs.Lines.{lines_at_end}
 use Rattle.px_told.specs.declared.change.Change.{Change}
-use Rattle.px_xlog.specs.Images.{IsSettledStore}
+use Rattle.px_standing.specs.Settled.{IsSettledStore}
 use Rattle.px_xlog.specs.Log.{most_frames}
 use Rattle.px_told.specs.Writes.{rows_in}
 use Rattle.px_logged.specs.Logged.{logged_by_all}

@@ -4,7 +4,8 @@ ghost use Rattle.px_site.specs.Cause.{NoneFell};
 ghost use Rattle.px_site.specs.State.{EachMoment};
 ghost use Rattle.px_restart.specs.declared.restart.Restart.{Restart};
 ghost use Rattle.px_told.specs.declared.change.Change.{Change};
-ghost use Rattle.px_xlog.specs.Images.{ImagesStandFor, IsSettledStore};
+ghost use Rattle.px_standing.specs.Images.{ImagesStandFor};
+ghost use Rattle.px_standing.specs.Settled.{IsSettledStore};
 ghost use Rattle.px_told.specs.Commits.{commits_in};
 ghost use Rattle.px_told.specs.Writes.{rows_in};
 ghost use Rattle.px_logged.specs.Recounting.{rows_now};
@@ -15,7 +16,6 @@ ghost use Rattle.px_run.specs.declared.command.Command.{Command};
 ghost use Rattle.px_calls.specs.Texts.{row_line};
 
 use crate::ended::Ended;
-use crate::statuses::status_of_opening;
 use crate::telling::tell;
 use px_calls::{Status, count_line, row_line};
 use px_core::Core;
@@ -45,7 +45,7 @@ pub(crate) fn dump_rows<W: Site>(alloc: Global, site: W) -> Ended<W>
         }
         Err(refused) => Ended {
             site: refused.site,
-            status: status_of_opening(refused.error),
+            status: Status::from(refused.error),
         },
     }
 }

@@ -6,7 +6,6 @@
 //! - `make_store`, `run_script`, `dump_rows`: what each word does, but for the line that a call ends with.
 //! - `ended`: what came of a word.
 //! - `telling`: pieces of text that are told, and that closing line.
-//! - `statuses`: the status by which an error of the layers below ends a call.
 //! - `laws`: what the definitions say of a small run.
 //!
 //! The definitions: `specs/Command` which words are which command, `specs/Causes` when each status may come, `specs/Told`
@@ -21,7 +20,6 @@ mod laws;
 mod make_store;
 mod run;
 mod run_script;
-mod statuses;
 mod telling;
 
 pub use command::Command;

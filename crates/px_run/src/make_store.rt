@@ -2,14 +2,14 @@
 ghost use Rattle.std.specs.Prelude.{◌≡◌, ◌≤◌, Some};
 ghost use Rattle.px_site.specs.Cause.{NoneFell};
 ghost use Rattle.px_site.specs.State.{EachMoment};
-ghost use Rattle.px_xlog.specs.Images.{CanMake, ImagesAreNew};
+ghost use Rattle.px_standing.specs.Images.{CanMake, ImagesAreNew};
 ghost use Rattle.px_run.specs.Causes.{HasStatusCause};
 ghost use Rattle.px_run.specs.Working.{MakesStore};
 ghost use Rattle.px_run.specs.declared.command.Command.{Command};
 
-use crate::statuses::{status_of_make, status_of_tell};
 use px_calls::{Status, made_line};
 use px_model::{LONGEST_SHORT, MOST_TABLES, SHORTEST_SHORT};
+use px_play::status_of_tell;
 use px_recovery::make;
 use px_site::Site;
 
@@ -25,7 +25,7 @@ pub(crate) fn make_store<W: Site>(site: &mut W, tables: u32, short: u32) -> Stat
     ensures none_fell { NoneFell (W.counts site.old) (W.counts site.new) }
 {
     if let Err(error) = make(site, tables, short) {
-        return status_of_make(error);
+        return Status::from(error);
     }
     match site.tell(made_line(tables, short).as_slice()) {
         Ok(()) => Status::Done,

@@ -4,8 +4,8 @@ ghost use Rattle.px_site.specs.Cause.{NoneFell};
 ghost use Rattle.px_site.specs.State.{EachMoment};
 ghost use Rattle.px_restart.specs.declared.restart.Restart.{Restart};
 ghost use Rattle.px_told.specs.declared.change.Change.{Change};
-ghost use Rattle.px_xlog.specs.Images.{IsSettledStore};
-ghost use Rattle.px_stored.specs.Stored.{Stored};
+ghost use Rattle.px_standing.specs.Settled.{IsSettledStore};
+ghost use Rattle.px_standing.specs.Stored.{Stored};
 ghost use Rattle.px_recovery.specs.Opening.{opened_machine, report_of};
 ghost use Rattle.px_play.specs.Acknowledged.{KeepsAcknowledged};
 ghost use Rattle.px_play.specs.Causes.{HasPlayCause};
@@ -16,7 +16,6 @@ ghost use Rattle.px_run.specs.Working.{RefusesQuietly, RunsScript};
 ghost use Rattle.px_run.specs.declared.command.Command.{Command};
 
 use crate::ended::Ended;
-use crate::statuses::status_of_opening;
 use crate::telling::tell;
 use px_calls::{Status, opened_line};
 use px_play::play;
@@ -49,7 +48,7 @@ pub(crate) fn run_script<W: Site, S: Source>(alloc: Global, source: &mut S, site
         }
         Err(refused) => Ended {
             site: refused.site,
-            status: status_of_opening(refused.error),
+            status: Status::from(refused.error),
         },
     }
 }

@@ -3,9 +3,9 @@ ghost use Rattle.std.specs.Prelude.{◌≡◌, IfErr};
 ghost use Rattle.px_site.specs.Cause.{NoneFell};
 ghost use Rattle.px_run.specs.Working.{Closes, HasTellCause, TellsPiece};
 
-use crate::statuses::status_of_tell;
 use px_calls::{Status, closing_line};
 use px_core::Core;
+use px_play::status_of_tell;
 use px_site::Site;
 
 /// Tells a piece. `OutputFault`: a front of it was told; `OutOfMemory`: nothing was.

@@ -11,8 +11,8 @@ use Rattle.px_scan.proofs.Recovery.{Agrees, Recovers, survives}
 use Rattle.px_scan.proofs.Written.{frames-append, frames-split, written-front}
 use Rattle.px_told.specs.declared.change.Change.{Change}
 use Rattle.px_xlog.specs.Payload.{change_text}
-use Rattle.px_xlog.specs.Reading.{log_text}
-use Rattle.px_xlog.specs.Images.{HasAt, IsPlainLog, IsBehind}
+use Rattle.px_xlog.specs.Contents.{log_text}
+use Rattle.px_xlog.specs.Written.{HasAt, IsPlainLog, IsBehind}
 use Rattle.px_xlog.specs.Log.{appended, grown_file, HasFirst}
 use Rattle.px_xlog.proofs.FramesOfChanges.{length-map-text, map_push_one}
 use Rattle.px_xlog.proofs.Growing.{has_longer, image_front, Fronts, fronts_none, fronts_write}

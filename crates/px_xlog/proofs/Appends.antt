@@ -9,10 +9,11 @@ use Rattle.px_frame.specs.Frame.{frame}
 use Rattle.px_scan.specs.Scan.{CanFrames}
 use Rattle.px_told.specs.declared.change.Change.{Change}
 use Rattle.px_xlog.specs.Payload.{change_text, may_hold, may_hold_all}
-use Rattle.px_xlog.specs.Reading.{the_log, log_text}
+use Rattle.px_xlog.specs.Contents.{the_log, log_text}
+use Rattle.px_xlog.specs.Window.{longest_frame}
 use Rattle.px_xlog.specs.Log.{Log, grown_file, with_frame, IsLogOf, HasFirst}
 use Rattle.px_xlog.proofs.Appending.{grown_more, grown_all, first_survive, first_of_fewer}
-use Rattle.px_xlog.proofs.FramesOfChanges.{can_frames, hold_more, log_more, longest_frame}
+use Rattle.px_xlog.proofs.FramesOfChanges.{can_frames, hold_more, log_more, length_held_frame}
 use Rattle.px_xlog.proofs.Growing.{overlay_end}
 
 -- the log and a change that it may hold next
@@ -24,8 +25,8 @@ pub record MayAppend (log : Log) (change : Change) (bytes : List ℕ) : Type 0 w
 pub may_append : (log : Log) (change : Change) (bytes : List ℕ) (number : ℕ) → number ≡ log.frames → number < 2 ^ 48 → may_hold log.tables log.frames change ≡ true → bytes ≡ frame number (change_text change) → MayAppend log change bytes
 may_append log change bytes number same below held is = record { held = held; below = omega (arith, same, below); bytes_are = is ∙ ap (λ (n : ℕ). frame n (change_text change)) same }
 
-pub short_frame : (log : Log) (change : Change) (bytes : List ℕ) → MayAppend log change bytes → length bytes ≤ 8208
-short_frame log change bytes may = omega (arith, ap length may.bytes_are, longest_frame log.tables log.frames change may.held)
+pub short_frame : (log : Log) (change : Change) (bytes : List ℕ) → MayAppend log change bytes → length bytes ≤ longest_frame
+short_frame log change bytes may = omega (arith, ap length may.bytes_are, length_held_frame log.tables log.frames change may.held)
 
 same_frame : (log : Log) (changes : List Change) (change : Change) (bytes : List ℕ) (s0 : State) → IsLogOf log changes s0 → MayAppend log change bytes → bytes ≡ frame (length changes) (change_text change)
 same_frame log changes change bytes s0 is may = may.bytes_are ∙ ap (λ (n : ℕ). frame n (change_text change)) is.count

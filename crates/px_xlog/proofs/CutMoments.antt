@@ -11,7 +11,7 @@ use Rattle.px_site.proofs.Moments.{then_moments, weaker_moments}
 use Rattle.px_scan.proofs.Scans.{is_scan, frames_of-frames}
 use Rattle.px_scan.specs.Scan.{frames, frames_of}
 use Rattle.px_xlog.specs.Log.{IsCutting, OnlyGrew, ReadsAsBefore}
-use Rattle.px_xlog.specs.Reading.{the_log, log_text}
+use Rattle.px_xlog.specs.Contents.{the_log, log_text}
 use Rattle.px_xlog.specs.Scanning.{ScansTo}
 use Rattle.px_told.specs.declared.change.Change.{Change}
 use Rattle.px_xlog.proofs.AtRest.{image_of_rest}

@@ -12,7 +12,7 @@ use Rattle.px_frame.proofs.Frames.{length-frame, payload_at-found}
 use Rattle.px_scan.specs.Scan.{frames, frames_of}
 use Rattle.px_scan.proofs.Scans.{is_scan, scanned_again, frames_of-end, frames_of-step, frames_of-frames, nothing_at}
 use Rattle.px_scan.proofs.Written.{frames-append}
-use Rattle.px_xlog.specs.Images.{HasAt, IsPlainLog, IsBehind, WasWritten}
+use Rattle.px_xlog.specs.Written.{HasAt, IsPlainLog, IsBehind, WasWritten}
 use Rattle.px_xlog.specs.Log.{ReadsAsBefore}
 use Rattle.px_xlog.proofs.Growing.{behind_untouched, behind_least, behind_earlier, image_front, overlaid_kept}
 

@@ -1,7 +1,8 @@
 -- Each change that a frame may hold has a frame.
-use Rattle.std.proofs.Common.{◌≡◌, ℕ, suc, ◌+◌, ◌^◌, ◌<◌, ◌≤◌, true, leb, ltb, List, [], ◌∷◌, ◌++◌, length, map, refl, ap, subst, ◌∙◌, arith}
+use Rattle.std.proofs.Common.{◌≡◌, ℕ, suc, ◌+◌, ◌-◌, ◌^◌, ◌<◌, ◌≤◌, true, leb, ltb, List, [], ◌∷◌, ◌++◌, length, map, refl, ap, subst, ◌∙◌, arith}
 use Rattle.std.proofs.lemmas.Bool.{and_parts, and_from, leb-true}
 use Rattle.std.proofs.lemmas.List.{append-nil}
+use Rattle.px_bytes.specs.declared.limits.TheConstants.{SHORTEST_PAYLOAD, LONGEST_PAYLOAD}
 use Rattle.px_frame.specs.Frame.{frame, CanFrame}
 use Rattle.px_frame.proofs.Frames.{length-frame}
 use Rattle.px_scan.specs.Scan.{frames, CanFrames}
@@ -10,8 +11,11 @@ use Rattle.px_model.specs.declared.write.Write.{Write}
 use Rattle.px_model.specs.declared.write.Write.TheVariants.{Put as PutRow, Delete}
 use Rattle.px_told.specs.declared.change.Change.{Change}
 use Rattle.px_told.specs.declared.change.Change.TheVariants.{Put, Commit, Rollback}
-use Rattle.px_xlog.specs.Payload.{write_text, change_text, is_stored, is_place, is_write, is_change, is_within, may_hold, may_hold_all, longest_key_and_body}
-use Rattle.px_xlog.specs.Reading.{log_text}
+use Rattle.px_xlog.specs.Payload.{write_text, change_text, is_stored, is_place, is_write, is_change, is_within, may_hold, may_hold_all}
+use Rattle.px_xlog.specs.declared.payload.TheConstants.{LONGEST_KEY_AND_BODY}
+use Rattle.px_model.specs.declared.limits.TheConstants.{LONGEST_KEY}
+use Rattle.px_xlog.specs.Window.{longest_frame}
+use Rattle.px_xlog.specs.Contents.{log_text}
 use Rattle.px_xlog.proofs.Payloads.{length-head}
 use Rattle.px_xlog.proofs.Writes.{length-cells}
 
@@ -19,24 +23,24 @@ pub record HasLength (bytes : List ℕ) (least most : ℕ) : Type 0 where
   pub shortest : least ≤ length bytes
   pub longest : length bytes ≤ most
 
-key_length : (table : ℕ) (key : List ℕ) → is_place table key ≡ true → length key ≤ 64
+key_length : (table : ℕ) (key : List ℕ) → is_place table key ≡ true → length key ≤ LONGEST_KEY
 key_length table key ok =
     let place = and_parts (leb 1 table) _ ok in
     let more = and_parts (ltb table 256) _ place.1 in
-    leb-true (length key) 64 (and_parts (leb 1 (length key)) (leb (length key) 64) more.1).1
+    leb-true (length key) LONGEST_KEY (and_parts (leb 1 (length key)) (leb (length key) LONGEST_KEY) more.1).1
 
-length_write : (write : Write) → is_write write ≡ true → HasLength (write_text write) 9 8175
+length_write : (write : Write) → is_write write ≡ true → HasLength (write_text write) 9 (LONGEST_PAYLOAD - 17)
 unfolding is_write write_text
 length_write (PutRow row) ok =
     let two = and_parts (is_place row.table row.key) _ ok in
-    let bounds = and_parts (ltb row.tag (2 ^ 32)) (leb (length row.key + length row.body) longest_key_and_body) two.1 in
-    let short : length row.key + length row.body ≤ 8166 = leb-true (length row.key + length row.body) longest_key_and_body bounds.1 in
+    let bounds = and_parts (ltb row.tag (2 ^ 32)) (leb (length row.key + length row.body) LONGEST_KEY_AND_BODY) two.1 in
+    let short : length row.key + length row.body ≤ LONGEST_KEY_AND_BODY = leb-true (length row.key + length row.body) LONGEST_KEY_AND_BODY bounds.1 in
     record { shortest = omega (arith, length-cells 1 row.table row.key row.tag row.body); longest = omega (arith, length-cells 1 row.table row.key row.tag row.body) }
 length_write (Delete table key) ok =
-    let short : length key ≤ 64 = key_length table key ok in
+    let short : length key ≤ LONGEST_KEY = key_length table key ok in
     record { shortest = omega (arith, length-cells 2 table key 0 []); longest = omega (arith, length-cells 2 table key 0 []) }
 
-pub length_change : (change : Change) → is_change change ≡ true → HasLength (change_text change) 18 8192
+pub length_change : (change : Change) → is_change change ≡ true → HasLength (change_text change) SHORTEST_PAYLOAD LONGEST_PAYLOAD
 unfolding is_change change_text
 length_change (Put xn write) ok =
     let size = length_write write (and_parts (is_stored xn) (is_write write) ok).1 in
@@ -86,7 +90,7 @@ hold_more tables number (first ∷ changes) change ok one =
     and_from (may_hold tables number first) _ two.0 (hold_more tables (number + 1) changes change two.1 (subst (λ (n : ℕ). may_hold tables n change ≡ true) same one))
 
 -- no frame of a change is longer
-pub longest_frame : (tables number : ℕ) (change : Change) → may_hold tables number change ≡ true → length (frame number (change_text change)) ≤ 8208
-longest_frame tables number change ok =
+pub length_held_frame : (tables number : ℕ) (change : Change) → may_hold tables number change ≡ true → length (frame number (change_text change)) ≤ longest_frame
+length_held_frame tables number change ok =
     let size = length_change change (may_be_written tables number change ok) in
     omega (arith, length-frame number (change_text change), size.longest)

@@ -6,7 +6,7 @@ use Rattle.std.proofs.lemmas.Grind.{same_number_lists}
 use Rattle.std.proofs.lemmas.List.{take_at, drop_all, append-nil, get_or-take, take-append-le, drop-append-le}
 use Rattle.px_site.specs.Disk.{Change, Wrote, Cut, Removed, FileState, IsImage, overlay, overlaid, touches, touched, least}
 use Rattle.px_site.proofs.Images.{length-overlay, overlay_other}
-use Rattle.px_xlog.specs.Images.{IsBehind, HasAt}
+use Rattle.px_xlog.specs.Written.{IsBehind, HasAt}
 
 -- a write at the end
 pub overlay_end : (old bytes : List ℕ) (place : ℕ) → place ≡ length old → overlay old place bytes ≡ old ++ bytes

@@ -11,6 +11,5 @@ pub mod MayHold
 pub mod OneChange
 pub mod Payloads
 pub mod Refusals
-pub mod Standing
 pub mod Windows
 pub mod Writes

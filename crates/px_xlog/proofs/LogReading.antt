@@ -8,10 +8,10 @@ use Rattle.std.proofs.lemmas.List.{drop_at}
 use Rattle.px_scan.proofs.Scans.{is_scan, frames_of-step}
 use Rattle.px_told.specs.declared.change.Change.{Change}
 use Rattle.px_xlog.specs.Payload.{change_text, may_hold, may_hold_all}
-use Rattle.px_xlog.specs.Reading.{log_text, HoldsNone}
+use Rattle.px_xlog.specs.Contents.{log_text, HoldsNone}
 use Rattle.px_xlog.specs.Scanning.{IsForeign, IsNext, HasForeign, FindsForeign, FindsDamage, ScansTo}
-use Rattle.px_xlog.specs.declared.error.LogError.{LogError}
-use Rattle.px_xlog.specs.declared.error.LogError.TheVariants.{OutOfMemory, Fault as FaultOf, Damaged, LogFull}
+use Rattle.px_xlog.specs.declared.error.LogOpenError.{LogOpenError}
+use Rattle.px_xlog.specs.declared.error.LogOpenError.TheVariants.{OutOfMemory, Fault as FaultOf, Damaged}
 use Rattle.px_xlog.specs.Window.{Shows}
 use Rattle.px_xlog.proofs.FramesOfChanges.{map_push_one, length-map-text, hold_more}
 use Rattle.px_xlog.proofs.Windows.{shown, shown_frame}
@@ -85,9 +85,8 @@ reading_damaged content tables changes stop count reading held has =
     }
 
 -- what the next frame's error says of the whole log
-pub damage_found : (content : List ℕ) (tables : ℕ) (changes : List Change) (stop count : ℕ) (error : LogError) → IsReading content changes stop count → may_hold_all tables 0 changes ≡ true → FindsForeign (drop stop content) tables count stop error → FindsDamage tables content error
+pub damage_found : (content : List ℕ) (tables : ℕ) (changes : List Change) (stop count : ℕ) (error : LogOpenError) → IsReading content changes stop count → may_hold_all tables 0 changes ≡ true → FindsForeign (drop stop content) tables count stop error → FindsDamage tables content error
 damage_found content tables changes stop count OutOfMemory reading held finds = tt
 damage_found content tables changes stop count (FaultOf fault) reading held finds = tt
 damage_found content tables changes stop count (Damaged file place) reading held finds =
     (finds.0, subst (HoldsNone tables content) (sym finds.1) (reading_damaged content tables changes stop count reading held finds.2))
-damage_found content tables changes stop count (LogFull n) reading held finds = tt

@@ -7,8 +7,10 @@ use Rattle.px_bytes.proofs.Numbers.{one_u32}
 use Rattle.px_model.specs.declared.row.Row.{Row}
 use Rattle.px_model.specs.declared.write.Write.{Write}
 use Rattle.px_model.specs.declared.write.Write.TheVariants.{Put as PutRow, Delete}
+use Rattle.px_model.specs.declared.limits.TheConstants.{LONGEST_KEY}
 use Rattle.px_xlog.specs.Fields.{IsRow, IsDeletion, IsCells, HoldsWrite}
-use Rattle.px_xlog.specs.Payload.{write_cells, write_text, is_place, is_write, longest_key_and_body}
+use Rattle.px_xlog.specs.Payload.{write_cells, write_text, is_place, is_write}
+use Rattle.px_xlog.specs.declared.payload.TheConstants.{LONGEST_KEY_AND_BODY}
 
 -- ---- fields
 
@@ -52,7 +54,7 @@ row_held bytes state table key tag body k b same_key same_body cells row =
     subst (λ (x : List ℕ). HoldsWrite bytes (PutRow (record { table = table; key = x; tag = tag; body = b }))) (sym same_key)
     (subst (λ (x : List ℕ). HoldsWrite bytes (PutRow (record { table = table; key = key; tag = tag; body = x }))) (sym same_body)
     (record {
-      grammar = and_from (is_place table key) _ row.place (and_from (ltb tag (2 ^ 32)) _ (lt-ltb tag (2 ^ 32) cells.tag_fits) (le-leb (length key + length body) longest_key_and_body row.short));
+      grammar = and_from (is_place table key) _ row.place (and_from (ltb tag (2 ^ 32)) _ (lt-ltb tag (2 ^ 32) cells.tag_fits) (le-leb (length key + length body) LONGEST_KEY_AND_BODY row.short));
       text = cells.cells ∙ ap (λ (s : ℕ). write_cells s table key tag body) row.here;
     }))
 
@@ -75,12 +77,12 @@ row_fields : (bytes : List ℕ) (row : Row) → HoldsWrite bytes (PutRow row) �
 unfolding is_write write_text
 row_fields bytes row held =
     let two = and_parts (is_place row.table row.key) _ held.grammar in
-    let bounds = and_parts (ltb row.tag (2 ^ 32)) (leb (length row.key + length row.body) longest_key_and_body) two.1 in
-    let short : length row.key + length row.body ≤ longest_key_and_body = leb-true (length row.key + length row.body) longest_key_and_body bounds.1 in
+    let bounds = and_parts (ltb row.tag (2 ^ 32)) (leb (length row.key + length row.body) LONGEST_KEY_AND_BODY) two.1 in
+    let short : length row.key + length row.body ≤ LONGEST_KEY_AND_BODY = leb-true (length row.key + length row.body) LONGEST_KEY_AND_BODY bounds.1 in
     let place = and_parts (leb 1 row.table) _ two.0 in
     let more = and_parts (ltb row.table 256) _ place.1 in
-    let long = and_parts (leb 1 (length row.key)) (leb (length row.key) 64) more.1 in
-    let key_fits : length row.key ≤ 64 = leb-true (length row.key) 64 long.1 in (
+    let long = and_parts (leb 1 (length row.key)) (leb (length row.key) LONGEST_KEY) more.1 in
+    let key_fits : length row.key ≤ LONGEST_KEY = leb-true (length row.key) LONGEST_KEY long.1 in (
       record { cells = held.text; table_fits = ltb-true row.table 256 more.0; key_fits = omega arith; tag_fits = ltb-true row.tag (2 ^ 32) bounds.0; body_fits = omega arith },
       record { here = refl; place = two.0; short = short },
     )
@@ -90,8 +92,8 @@ unfolding is_write write_text
 deletion_fields bytes table key held =
     let place = and_parts (leb 1 table) _ held.grammar in
     let more = and_parts (ltb table 256) _ place.1 in
-    let long = and_parts (leb 1 (length key)) (leb (length key) 64) more.1 in
-    let key_fits : length key ≤ 64 = leb-true (length key) 64 long.1 in (
+    let long = and_parts (leb 1 (length key)) (leb (length key) LONGEST_KEY) more.1 in
+    let key_fits : length key ≤ LONGEST_KEY = leb-true (length key) LONGEST_KEY long.1 in (
       record { cells = held.text; table_fits = ltb-true table 256 more.0; key_fits = omega arith; tag_fits = omega arith; body_fits = omega arith },
       record { here = refl; place = held.grammar; untagged = refl; no_body = refl },
     )
@@ -105,7 +107,7 @@ neither bytes state table key tag body (PutRow row) cells no_row no_deletion hel
     no_row (record {
       here = same.state;
       place = ap (λ (k : List ℕ). is_place table k) same.key ∙ ap (λ (t : ℕ). is_place t row.key) same.table ∙ fields.1.place;
-      short = subst (λ (k : List ℕ). length k + length body ≤ longest_key_and_body) (sym same.key) (subst (λ (b : List ℕ). length row.key + length b ≤ longest_key_and_body) (sym same.body) fields.1.short);
+      short = subst (λ (k : List ℕ). length k + length body ≤ LONGEST_KEY_AND_BODY) (sym same.key) (subst (λ (b : List ℕ). length row.key + length b ≤ LONGEST_KEY_AND_BODY) (sym same.body) fields.1.short);
     })
 neither bytes state table key tag body (Delete at name) cells no_row no_deletion held =
     let fields = deletion_fields bytes at name held in

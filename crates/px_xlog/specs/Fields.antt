@@ -2,7 +2,8 @@
 use Rattle.std.specs.Prelude.{◌≡◌, ℕ, ◌+◌, ◌^◌, ◌<◌, ◌≤◌, Bool, true, ◌&&◌, ◌||◌, nat_eq, nat_le, List, [], ◌∷◌, ◌++◌, length, drop}
 use Rattle.std.specs.Int.{w16, w32, to_be_bytes}
 use Rattle.px_model.specs.declared.write.Write.{Write}
-use Rattle.px_xlog.specs.Payload.{head, write_cells, write_text, is_stored, is_place, is_write, longest_key_and_body}
+use Rattle.px_xlog.specs.Payload.{head, write_cells, write_text, is_stored, is_place, is_write}
+use Rattle.px_xlog.specs.declared.payload.TheConstants.{LONGEST_KEY_AND_BODY}
 
 -- the bytes are a head with these numbers, and a rest
 pub record IsHead (bytes : List ℕ) (kind xn commit : ℕ) (rest : List ℕ) : Type 0 where
@@ -39,7 +40,7 @@ pub record IsEnd (kind xn commit : ℕ) (rest : List ℕ) : Type 0 where
 pub record IsRow (state table : ℕ) (key body : List ℕ) : Type 0 where
   pub here : state ≡ 1
   pub place : is_place table key ≡ true
-  pub short : length key + length body ≤ longest_key_and_body
+  pub short : length key + length body ≤ LONGEST_KEY_AND_BODY
 
 pub record IsDeletion (state table : ℕ) (key : List ℕ) (tag : ℕ) (body : List ℕ) : Type 0 where
   pub here : state ≡ 2

@@ -1,9 +1,9 @@
+pub mod Contents
 pub mod Errors
 pub mod Examples
 pub mod Fields
-pub mod Images
 pub mod Log
 pub mod Payload
-pub mod Reading
 pub mod Scanning
 pub mod Window
+pub mod Written

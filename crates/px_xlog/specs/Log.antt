@@ -8,9 +8,10 @@ use Rattle.px_scan.specs.Scan.{frames_of}
 use Rattle.px_told.specs.declared.change.Change.{Change}
 use Rattle.px_told.specs.declared.change.Change.TheVariants.{Put, Commit, Rollback}
 use Rattle.px_told.specs.Changes.{is_end}
+use Rattle.px_xlog.specs.declared.place.TheConstants.{MOST_FRAMES}
 use Rattle.px_xlog.specs.Payload.{change_text, may_hold_all}
-use Rattle.px_xlog.specs.Reading.{the_log, log_text}
-use Rattle.px_xlog.specs.Images.{IsPlainLog, IsBehind}
+use Rattle.px_xlog.specs.Contents.{the_log, log_text}
+use Rattle.px_xlog.specs.Written.{IsPlainLog, IsBehind}
 
 pub record Log : Type 0 where
   pub tables : ℕ
@@ -24,7 +25,7 @@ pub record Log : Type 0 where
 
 -- until there are segments
 abbrev pub most_frames : ℕ
-most_frames = 4294967296
+most_frames = MOST_FRAMES
 
 abbrev pub full_at : Log → Option ℕ
 full_at log = if nat_lt log.frames most_frames then None else Some log.frames

@@ -1,10 +1,12 @@
 -- The payloads of frames: a change's one text, and which change a frame may hold.
-use Rattle.std.specs.Prelude.{◌≡◌, ℕ, ◌+◌, Bool, true, ◌&&◌, nat_lt, nat_le, List, [], ◌∷◌, ◌++◌, length}
+use Rattle.std.specs.Prelude.{◌≡◌, ℕ, ◌+◌, ◌^◌, Bool, true, ◌&&◌, nat_lt, nat_le, List, [], ◌∷◌, ◌++◌, length}
 use Rattle.std.specs.Int.{w16, w32, w64, to_be_bytes}
+use Rattle.px_model.specs.declared.limits.TheConstants.{LONGEST_KEY, STORED_NUMBERS_END}
 use Rattle.px_model.specs.declared.write.Write.{Write}
 use Rattle.px_model.specs.declared.write.Write.TheVariants.{Put as PutRow, Delete}
 use Rattle.px_told.specs.declared.change.Change.{Change}
 use Rattle.px_told.specs.declared.change.Change.TheVariants.{Put, Commit, Rollback}
+use Rattle.px_xlog.specs.declared.payload.TheConstants.{LONGEST_KEY_AND_BODY}
 
 -- ---- the text
 
@@ -28,27 +30,20 @@ change_text (Rollback xn) = head 3 xn 0 ++ 0 ∷ []
 
 -- ---- the grammar
 
-abbrev pub longest_key : ℕ
-longest_key = 64
-
--- the longest payload of a frame has 8,192 bytes, and 26 of a write's stand before its key
-abbrev pub longest_key_and_body : ℕ
-longest_key_and_body = 8166
-
 -- the numbers of transactions, as they are stored
 abbrev pub is_stored : ℕ → Bool
-is_stored xn = nat_le 1 xn && nat_lt xn 4611686018427387904
+is_stored xn = nat_le 1 xn && nat_lt xn STORED_NUMBERS_END
 
 abbrev pub is_place : ℕ → List ℕ → Bool
-is_place table key = nat_le 1 table && (nat_lt table 256 && (nat_le 1 (length key) && nat_le (length key) longest_key))
+is_place table key = nat_le 1 table && (nat_lt table (2 ^ 8) && (nat_le 1 (length key) && nat_le (length key) LONGEST_KEY))
 
 unfoldable pub is_write : Write → Bool
-is_write (PutRow row) = is_place row.table row.key && (nat_lt row.tag 4294967296 && nat_le (length row.key + length row.body) longest_key_and_body)
+is_write (PutRow row) = is_place row.table row.key && (nat_lt row.tag (2 ^ 32) && nat_le (length row.key + length row.body) LONGEST_KEY_AND_BODY)
 is_write (Delete table key) = is_place table key
 
 unfoldable pub is_change : Change → Bool
 is_change (Put xn write) = is_stored xn && is_write write
-is_change (Commit xn commit) = is_stored xn && (nat_le 1 commit && nat_lt commit 18446744073709551616)
+is_change (Commit xn commit) = is_stored xn && (nat_le 1 commit && nat_lt commit (2 ^ 64))
 is_change (Rollback xn) = is_stored xn
 
 -- the payload is that of a change

@@ -3,10 +3,10 @@ use Rattle.std.specs.Prelude.{◌≡◌, ◌≢◌, ℕ, ◌+◌, true, List, �
 use Rattle.px_frame.specs.Frame.{FrameAt}
 use Rattle.px_scan.specs.Scan.{frames_of}
 use Rattle.px_told.specs.declared.change.Change.{Change}
-use Rattle.px_xlog.specs.declared.error.LogError.{LogError}
-use Rattle.px_xlog.specs.declared.error.LogError.TheVariants.{OutOfMemory, Fault as FaultOf, Damaged, LogFull}
+use Rattle.px_xlog.specs.declared.error.LogOpenError.{LogOpenError}
+use Rattle.px_xlog.specs.declared.error.LogOpenError.TheVariants.{OutOfMemory, Fault as FaultOf, Damaged}
 use Rattle.px_xlog.specs.Payload.{change_text, may_hold}
-use Rattle.px_xlog.specs.Reading.{the_log, log_text, HoldsNone}
+use Rattle.px_xlog.specs.Contents.{the_log, log_text, HoldsNone}
 
 -- the payload is no change that this frame may hold
 abbrev pub IsForeign : (tables number : ℕ) → List ℕ → Type 0
@@ -24,18 +24,16 @@ pub record HasForeign (rest : List ℕ) (tables number : ℕ) : Type 0 where
   pub foreign : IsForeign tables number payload
 
 -- what Damaged says where the next frame is read
-abbrev pub FindsForeign : List ℕ → (tables number place : ℕ) → LogError → Type 0
+abbrev pub FindsForeign : List ℕ → (tables number place : ℕ) → LogOpenError → Type 0
 FindsForeign rest tables number place OutOfMemory = Unit {0}
 FindsForeign rest tables number place (FaultOf fault) = Unit {0}
 FindsForeign rest tables number place (Damaged file at) = (file ≡ the_log) × (at ≡ place) × HasForeign rest tables number
-FindsForeign rest tables number place (LogFull n) = Unit {0}
 
 -- and where all of them are
-abbrev pub FindsDamage : ℕ → List ℕ → LogError → Type 0
+abbrev pub FindsDamage : ℕ → List ℕ → LogOpenError → Type 0
 FindsDamage tables content OutOfMemory = Unit {0}
 FindsDamage tables content (FaultOf fault) = Unit {0}
 FindsDamage tables content (Damaged file place) = (file ≡ the_log) × HoldsNone tables content place
-FindsDamage tables content (LogFull n) = Unit {0}
 
 -- the scan of the content gives these changes, and stops there
 pub record ScansTo (content : List ℕ) (changes : List Change) (stop : ℕ) : Type 0 where

@@ -1,5 +1,7 @@
 -- A window on the bytes of a file, through which frames are read one after the other.
 use Rattle.std.specs.Prelude.{◌≡◌, ◌⊎◌, ℕ, ◌+◌, ◌≤◌, Bool, true, List, length, take, drop}
+use Rattle.px_bytes.specs.declared.limits.TheConstants.{LONGEST_PAYLOAD}
+use Rattle.px_frame.specs.declared.frame.TheConstants.{HEADER_SIZE}
 
 -- the bytes that were read at a place, and that the file ended with them
 pub record Seen : Type 0 where
@@ -8,7 +10,7 @@ pub record Seen : Type 0 where
   pub ended : Bool
 
 abbrev pub longest_frame : ℕ
-longest_frame = 8208
+longest_frame = HEADER_SIZE + LONGEST_PAYLOAD
 
 -- they are those of this content
 pub record Sees (content : List ℕ) (seen : Seen) : Type 0 where

@@ -1,13 +1,8 @@
 //! What the definitions say of small examples.
-ghost use Rattle.std.specs.Prelude.{◌≡◌, [], ◌∷◌, ◌++◌, map, true, false};
-ghost use Rattle.px_frame.specs.Frame.{frame};
-ghost use Rattle.px_scan.specs.Scan.{frames_of};
+ghost use Rattle.std.specs.Prelude.{◌≡◌, [], ◌∷◌, true, false};
 ghost use Rattle.px_model.specs.declared.write.Write.TheVariants.{Put as PutRow, Delete};
-ghost use Rattle.px_xlog.specs.Examples.{aa, begun_log, ended_log};
-ghost use Rattle.px_xlog.specs.Payload.{change_text, may_hold, may_hold_all};
-ghost use Rattle.px_xlog.specs.Reading.{log_text};
-ghost use Rattle.px_told.specs.Commits.{commits_in};
-ghost use Rattle.px_told.specs.Writes.{rows_in};
+ghost use Rattle.px_xlog.specs.Examples.{aa};
+ghost use Rattle.px_xlog.specs.Payload.{change_text, may_hold};
 
 use px_told::Change;
 
@@ -26,14 +21,4 @@ pub fn what_a_frame_may_hold()
     ensures no_table { may_hold 1 0 (Change.Put 1 (Delete 2 (7 ∷ []))) ≡ false }
     ensures no_key { may_hold 1 0 (Change.Put 1 (Delete 1 [])) ≡ false }
     ensures no_number { may_hold 1 0 (Change.Rollback 0) ≡ false }
-{}
-
-/// A transaction's rows count once it has committed, and the scan stops at a torn frame, whatever stands behind it.
-pub fn what_a_log_stands_for()
-    ensures held { may_hold_all 1 0 ended_log ≡ true }
-    ensures commits { commits_in ended_log ≡ 1 }
-    ensures rows { rows_in ended_log ≡ aa ∷ [] }
-    ensures open_one { rows_in begun_log ≡ [] }
-    ensures scanned { frames_of (log_text ended_log) 0 ≡ map change_text ended_log }
-    ensures torn { frames_of (log_text begun_log ++ 0 ∷ frame 2 (change_text (Change.Commit 1 1))) 0 ≡ map change_text begun_log }
 {}

@@ -1,4 +1,4 @@
-//! The transaction log, and what the files of a store stand for.
+//! The transaction log: its bytes, its frames and their payloads. What these stand for in rows is said elsewhere.
 //!
 //! Seen from above, an `Xlog` is the list of the appended changes, of which the first `durable` are synced. `IsLogOf`
 //! says so of a site, and the clauses `moments` say what a crash at any moment of a call leaves (docs/LOG.md).
@@ -8,11 +8,11 @@
 //! - `place`: in which file a frame stands, and from which number on. Segments will change it alone.
 //! - `xlog`, `frame_buffer`: the log to which frames are appended, and the bytes of one frame.
 //! - `open`, `reader`, `window`: the log is read from its file, and what is torn behind it is cut.
-//! - `error`: why a call gives up.
+//! - `error`: why a frame isn't appended, and why a log isn't opened.
 //! - `laws`: what the definitions say of small examples.
 //!
-//! The definitions: `specs/Payload` the grammar; `specs/Reading` what files say and stand for; `specs/Images` what a
-//! crash leaves; `specs/Log` the log at every moment; `specs/Errors` causes.
+//! The definitions: `specs/Payload` the grammar; `specs/Contents` what the bytes of the log are; `specs/Written` what a
+//! crash leaves of them; `specs/Log` the log at every moment; `specs/Errors` causes.
 #![tactic(auto)]
 
 mod error;
@@ -26,8 +26,8 @@ mod reader;
 mod window;
 mod xlog;
 
-pub use error::LogError;
-pub use laws::{texts_of_changes, what_a_frame_may_hold, what_a_log_stands_for};
+pub use error::{LogError, LogOpenError};
+pub use laws::{texts_of_changes, what_a_frame_may_hold};
 pub use list::ChangeList;
 pub use open::open_log;
 pub use payload::{put_change, read_change};

@@ -1,19 +1,17 @@
-ghost use Rattle.std.specs.Prelude.{◌≡◌, ⊤, ℕ, ◌*◌, ◌^◌, ◌≤◌, true, List, length, take, IfOk, IfErr, OnOk};
-ghost use Rattle.px_model.specs.declared.row.Row.{Row};
+ghost use Rattle.std.specs.Prelude.{◌≡◌, ⊤, ◌*◌, ◌^◌, ◌≤◌, true, length, take, IfOk, IfErr, OnOk};
 ghost use Rattle.px_site.specs.Cause.{NoneFell};
 ghost use Rattle.px_site.specs.Disk.{at_rest};
 ghost use Rattle.px_site.specs.State.{EachMoment, OnFile, Stands};
 ghost use Rattle.px_xlog.specs.Errors.{CountsLogFault, HasOpenCause, IsFileFault, IsOfSite, LeavesSite};
-ghost use Rattle.px_xlog.specs.Images.{KeepsStanding, Settled};
 ghost use Rattle.px_xlog.specs.Log.{IsCutting, IsLogOf, OnlyGrew, ReadsAsBefore};
 ghost use Rattle.px_xlog.specs.Payload.{may_hold_all};
-ghost use Rattle.px_xlog.specs.Reading.{Scans, log_text, the_log};
+ghost use Rattle.px_xlog.specs.Contents.{Scans, log_text, the_log};
 ghost use Rattle.px_xlog.specs.Scanning.{ScansTo};
 ghost use Rattle.px_xlog.specs.Window.{longest_frame};
 
 use crate::place::log_file;
 use crate::reader::{LogScan, read_log};
-use crate::{ChangeList, LogError, Xlog};
+use crate::{ChangeList, LogOpenError, Xlog};
 use px_restart::Restart;
 use px_site::Site;
 use std::alloc::Global;
@@ -26,7 +24,7 @@ pub fn open_log<W: Site>(
     alloc: Global,
     site: &mut W,
     restart: &Restart,
-) -> Result<(Xlog, ChangeList), LogError>
+) -> Result<(Xlog, ChangeList), LogOpenError>
     ensures read { W.tells → IfOk result (λ opened. Scans restart.now ((W.state site.old).content the_log) opened.1) }
     ensures held { IfOk result (λ opened. may_hold_all restart.now.tables 0 opened.1 ≡ true) }
     ensures count { IfOk result (λ opened. opened.0.frames ≡ length opened.1) }
@@ -39,19 +37,17 @@ pub fn open_log<W: Site>(
     ensures moments { W.tells → OnlyGrew ((W.state site.old).now.files the_log) ((W.state site.old).content the_log)
         → EachMoment (OnFile the_log (W.state site.old).now (ReadsAsBefore ((W.state site.old).now.files the_log))) (W.state site.old) (W.state site.new) }
     ensures log_alone { W.tells → EachMoment (OnFile the_log (W.state site.old).now (λ file. ⊤)) (W.state site.old) (W.state site.new) }
-    ensures standing { W.tells → (commits : ℕ) (rows : List Row) → Settled (W.state site.old) commits rows
-        → EachMoment (KeepsStanding commits rows (W.state site.old).now) (W.state site.old) (W.state site.new) }
     ensures none_fell { NoneFell (W.counts site.old) (W.counts site.new) }
     ensures fault { IfErr result (CountsLogFault (W.counts site.old) (W.counts site.new)) }
     ensures own { IfErr result IsFileFault }
-    ensures cause { W.tells → IfErr result (HasOpenCause restart.now (W.state site.old).content (W.counts site.old) (W.counts site.new)) }
+    ensures cause { W.tells → IfErr result (HasOpenCause restart.now ((W.state site.old).content the_log) (W.counts site.old) (W.counts site.new)) }
 {
     let scan = recover(alloc, site, restart)?;
     let log = Xlog::recovered(alloc, restart.tables, scan.frames, scan.stop);
     Ok((log, scan.changes))
 }
 
-fn recover<W: Site>(alloc: Global, site: &mut W, restart: &Restart) -> Result<LogScan, LogError>
+fn recover<W: Site>(alloc: Global, site: &mut W, restart: &Restart) -> Result<LogScan, LogOpenError>
     ensures scan { W.tells → IfOk result (λ scan. ScansTo ((W.state site.old).content the_log) scan.changes scan.stop) }
     ensures held { IfOk result (λ scan. may_hold_all restart.now.tables 0 scan.changes ≡ true) }
     ensures count { IfOk result (λ scan. scan.frames ≡ length scan.changes) }
@@ -66,11 +62,11 @@ fn recover<W: Site>(alloc: Global, site: &mut W, restart: &Restart) -> Result<Lo
     ensures none_fell { NoneFell (W.counts site.old) (W.counts site.new) }
     ensures fault { IfErr result (CountsLogFault (W.counts site.old) (W.counts site.new)) }
     ensures own { IfErr result IsFileFault }
-    ensures cause { W.tells → IfErr result (HasOpenCause restart.now (W.state site.old).content (W.counts site.old) (W.counts site.new)) }
+    ensures cause { W.tells → IfErr result (HasOpenCause restart.now ((W.state site.old).content the_log) (W.counts site.old) (W.counts site.new)) }
 {
     let scan = read_log(alloc, site, restart.tables)?;
     if scan.frames < restart.durable {
-        return Err(LogError::Damaged {
+        return Err(LogOpenError::Damaged {
             file: log_file(),
             place: scan.stop,
         });
@@ -81,7 +77,7 @@ fn recover<W: Site>(alloc: Global, site: &mut W, restart: &Restart) -> Result<Lo
 
 // What stands behind the scanned frames is cut, and the cut is synced before anything is written there. Else a whole
 // frame behind a torn one might come back once a new frame stands in the torn one's place.
-fn cut_log<W: Site>(site: &mut W, stop: u64) -> Result<(), LogError>
+fn cut_log<W: Site>(site: &mut W, stop: u64) -> Result<(), LogOpenError>
     ensures left { W.tells → OnOk result (Stands the_log (W.state site.old)
         (at_rest (take stop ((W.state site.old).content the_log))) (take stop ((W.state site.old).content the_log)) (W.state site.new)) }
     ensures moments { W.tells → EachMoment (OnFile the_log (W.state site.old).now

@@ -1,7 +1,7 @@
 // Where frames stand: in which file, at which place, and under which numbers. Until there are segments, the log is one
 // file, and its frames are numbered from 0. Segments change this module alone.
 ghost use Rattle.std.specs.Prelude.{◌≡◌};
-ghost use Rattle.px_xlog.specs.Reading.{the_log};
+ghost use Rattle.px_xlog.specs.Contents.{the_log};
 
 use px_site::FileName;
 

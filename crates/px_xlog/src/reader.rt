@@ -3,14 +3,14 @@ ghost use Rattle.px_site.specs.Cause.{NoneFell};
 ghost use Rattle.px_frame.specs.Frame.{payload_at};
 ghost use Rattle.px_xlog.specs.Errors.{CountsLogFault, IsFileFault};
 ghost use Rattle.px_xlog.specs.Payload.{change_text, may_hold, may_hold_all};
-ghost use Rattle.px_xlog.specs.Reading.{the_log};
+ghost use Rattle.px_xlog.specs.Contents.{the_log};
 ghost use Rattle.px_xlog.specs.Scanning.{FindsDamage, FindsForeign, IsForeign, IsNext, ScansTo};
 ghost use Rattle.px_xlog.specs.Window.{Sees, longest_frame};
 
 use crate::payload::{may_stand, read_change};
 use crate::place::log_file;
 use crate::window::Window;
-use crate::{ChangeList, LogError};
+use crate::{ChangeList, LogOpenError};
 use px_frame::read_frame;
 use px_site::Site;
 use px_told::Change;
@@ -26,7 +26,7 @@ pub struct LogScan {
 
 /// Reads the log's frames from the first one on, while they check. Damaged exactly where one of them is read whose
 /// payload isn't a change that it may hold.
-pub fn read_log<W: Site>(alloc: Global, site: &mut W, tables: u32) -> Result<LogScan, LogError>
+pub fn read_log<W: Site>(alloc: Global, site: &mut W, tables: u32) -> Result<LogScan, LogOpenError>
     ensures scan { W.tells → IfOk result (λ scan. ScansTo ((W.state site.old).content the_log) scan.changes scan.stop) }
     ensures held { IfOk result (λ scan. may_hold_all tables 0 scan.changes ≡ true) }
     ensures count { IfOk result (λ scan. scan.frames ≡ length scan.changes) }
@@ -61,7 +61,7 @@ fn next_change<W: Site>(
     tables: u32,
     place: u64,
     number: u64,
-) -> Result<Option<(Change, u64)>, LogError>
+) -> Result<Option<(Change, u64)>, LogOpenError>
     requires { place ≤ 2 ^ 62 }
     ensures next { W.tells → Sees ((W.state site.old).content the_log) window.old
         → IfOk result (λ next. IfSome next (λ f. IsNext (drop place ((W.state site.old).content the_log)) number f.0 f.1)) }
@@ -85,7 +85,7 @@ fn next_change<W: Site>(
     let held = read_held(alloc, payload, tables, number)?;
     match held {
         Some(change) => Ok(Some((change, size as u64))),
-        None => Err(LogError::Damaged {
+        None => Err(LogOpenError::Damaged {
             file: log_file(),
             place,
         }),

@@ -1,17 +1,19 @@
 ghost use Rattle.std.specs.Prelude.{◌≡◌, ◌↔◌, ◌-◌, ◌^◌, ◌≤◌, ℕ, List, [], drop, IfOk, IfErr, OnOk, IsTrue};
 ghost use Rattle.px_site.specs.Cause.{NoneFell};
 ghost use Rattle.px_xlog.specs.Errors.{IsFileFault, IsOfSite};
-ghost use Rattle.px_xlog.specs.Reading.{the_log};
+ghost use Rattle.px_xlog.specs.Contents.{the_log};
 ghost use Rattle.px_xlog.specs.Window.{Covers, Sees};
 
-use crate::LogError;
+use crate::LogOpenError;
 use crate::place::log_file;
+use px_bytes::LONGEST_PAYLOAD;
+use px_frame::HEADER_SIZE;
 use px_site::Site;
 use std::alloc::{AllocError, Global};
 use std::marker::Model;
 
 /// The size of a frame with the longest payload.
-const LONGEST_FRAME: u64 = 8208;
+const LONGEST_FRAME: u64 = (HEADER_SIZE + LONGEST_PAYLOAD) as u64;
 
 /// So many bytes hold some frames of each size.
 const ROOM: usize = 65_536;
@@ -51,7 +53,7 @@ impl Window {
     }
 
     /// Moves the window, if need be, so that it covers the place.
-    pub fn cover<W: Site>(&mut self, site: &mut W, place: u64) -> Result<(), LogError>
+    pub fn cover<W: Site>(&mut self, site: &mut W, place: u64) -> Result<(), LogOpenError>
         requires { place ≤ 2 ^ 62 }
         ensures covers { OnOk result (Covers place self.new) }
         ensures sees { W.tells → Sees ((W.state site.old).content the_log) self.old

@@ -1,18 +1,18 @@
 ghost use Rattle.std.specs.Prelude.{◌≡◌, ℕ, ◌-◌, ◌*◌, ◌^◌, ◌≤◌, true, if◌then◌else◌, List, [], ◌∷◌, ◌++◌, Some, IfOk, IfErr, IsErrOf, OnOk, OnErr};
-ghost use Rattle.px_site.specs.Cause.{NoneFell, Rose};
-ghost use Rattle.px_site.specs.State.{EachMoment, OnFile};
-ghost use Rattle.px_xlog.specs.Errors.{HasLogCause, IsFaultOf, IsOfSite, LeavesUntouched, OnShortage};
+ghost use Rattle.px_site.specs.Cause.{HasCause, IsOwn, NoneFell, Rose};
+ghost use Rattle.px_site.specs.State.{EachMoment, OnFile, OnShort};
+ghost use Rattle.px_xlog.specs.Errors.{HasLogCause, IsFaultOf, LeavesUntouched, OnShortage};
 ghost use Rattle.px_xlog.specs.Log.{HasFirst, IsLogOf, full_at, with_frame};
 ghost use Rattle.px_told.specs.Changes.{is_end};
 ghost use Rattle.px_xlog.specs.Payload.{may_hold};
-ghost use Rattle.px_xlog.specs.Reading.{the_log};
+ghost use Rattle.px_xlog.specs.Contents.{the_log};
 ghost use Rattle.px_xlog.specs.Window.{longest_frame};
 ghost use Rattle.px_told.specs.declared.change.Change.{Change};
 
 use crate::LogError;
 use crate::frame_buffer::FrameBuffer;
 use crate::place::{FIRST_NUMBER, MOST_FRAMES, ONLY_SEGMENT, log_file};
-use px_site::{Fault, Site};
+use px_site::{Fault, Site, SiteError};
 use px_told::Change;
 use std::alloc::{AllocError, Global};
 use std::marker::Model;
@@ -94,19 +94,18 @@ impl Xlog {
 
     /// Makes each frame durable. Where each is, nothing is done. OutOfMemory where the site wants memory, which leaves it
     /// as it was; a fault may not.
-    pub fn flush<W: Site>(&mut self, site: &mut W) -> Result<(), LogError>
+    pub fn flush<W: Site>(&mut self, site: &mut W) -> Result<(), SiteError>
         ensures marks { OnOk result (self.new ≡ record self.old { durable = self.old.frames }) }
         ensures as_before { OnErr result (self.new ≡ self.old) }
         ensures logged { W.tells → (changes : List Change) → IsLogOf self.old changes (W.state site.old)
             → OnOk result (IsLogOf self.new changes (W.state site.new)) }
         ensures idle { W.tells → self.old.durable ≡ self.old.frames → W.state site.new ≡ W.state site.old }
-        ensures untouched { W.tells → IfErr result (LeavesUntouched (W.state site.old) (W.state site.new)) }
+        ensures untouched { W.tells → OnShort result (W.state site.new ≡ W.state site.old) }
         ensures moments { W.tells → (changes : List Change) → IsLogOf self.old changes (W.state site.old)
             → EachMoment (OnFile the_log (W.state site.old).now (HasFirst self.old.durable changes)) (W.state site.old) (W.state site.new) }
-        ensures room { IfErr result (λ error. OnShortage error (Rose (W.counts site.old).shorts (W.counts site.new).shorts)) }
         ensures none_fell { NoneFell (W.counts site.old) (W.counts site.new) }
-        ensures cause { IfErr result (IsOfSite (W.counts site.old) (W.counts site.new)) }
-        ensures own { IfErr result (IsFaultOf Fault.Sync) }
+        ensures cause { IfErr result (HasCause (W.counts site.old) (W.counts site.new)) }
+        ensures own { IfErr result (IsOwn Fault.Sync) }
     {
         if self.durable == self.frames {
             return Ok(());

@@ -49,7 +49,6 @@ impl<W: Site> Core<W> {
             Ok(_number) => Ok(()),
             Err(LogError::OutOfMemory) => Err(CoreError::OutOfMemory),
             Err(LogError::LogFull(number)) => Err(CoreError::LogFull(number)),
-            Err(LogError::Damaged { file, place }) => Err(CoreError::Damaged { file, place }),
             Err(LogError::Fault(fault)) => {
                 self.error = Some(SiteError::Fault(fault));
                 Err(CoreError::Fault(fault))
@@ -58,7 +57,7 @@ impl<W: Site> Core<W> {
     }
 
     // Makes all frames durable. Where that fails the core is broken: it can't know which frames a crash would leave.
-    pub(super) fn flush(&mut self) -> Result<(), CoreError>
+    pub(super) fn flush(&mut self) -> Result<(), SiteError>
         ensures flushed { OnOk result (Flushes W.tells W.state self.old self.new) }
         ensures moments { W.tells → LeavesFronts W.state (λ changes. changes) self.old self.new }
         ensures refused { IfErr result (FlushFails W.counts self.old self.new) }
@@ -66,16 +65,10 @@ impl<W: Site> Core<W> {
     {
         match self.log.flush(&mut self.site) {
             Ok(()) => Ok(()),
-            Err(LogError::OutOfMemory) => {
-                self.error = Some(SiteError::OutOfMemory);
-                Err(CoreError::OutOfMemory)
+            Err(error) => {
+                self.error = Some(error);
+                Err(error)
             }
-            Err(LogError::Fault(fault)) => {
-                self.error = Some(SiteError::Fault(fault));
-                Err(CoreError::Fault(fault))
-            }
-            Err(LogError::LogFull(number)) => Err(CoreError::LogFull(number)),
-            Err(LogError::Damaged { file, place }) => Err(CoreError::Damaged { file, place }),
         }
     }
 }

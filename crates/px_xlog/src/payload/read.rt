@@ -5,11 +5,11 @@ ghost use Rattle.px_xlog.specs.Payload.{HoldsChange, head, is_place, is_stored};
 ghost use Rattle.px_told.specs.declared.change.Change.{Change};
 
 use super::{
-    FIRST_NUMBER, KIND_COMMIT, KIND_PUT, KIND_ROLLBACK, LONGEST_KEY, LONGEST_KEY_AND_BODY,
-    NO_WRITE, NUMBER_LIMIT, STATE_DELETION, STATE_ROW,
+    FIRST_NUMBER, KIND_COMMIT, KIND_PUT, KIND_ROLLBACK, LONGEST_KEY_AND_BODY, NO_WRITE,
+    STATE_DELETION, STATE_ROW,
 };
 use px_bytes::Fields;
-use px_model::{Bytes, Row, Write};
+use px_model::{Bytes, LONGEST_KEY, Row, STORED_NUMBERS_END, Write};
 use px_told::Change;
 use std::alloc::{AllocError, Global};
 
@@ -93,7 +93,7 @@ fn is_kind_of_end(kind: u8, commit: u64) -> bool
 fn is_stored_number(xn: u64) -> bool
     ensures { result ≡ is_stored xn }
 {
-    FIRST_NUMBER <= xn && xn < NUMBER_LIMIT
+    FIRST_NUMBER <= xn && xn < STORED_NUMBERS_END
 }
 
 fn read_put(alloc: Global, xn: u64, commit: u64, rest: &[u8]) -> Result<Option<Change>, AllocError>

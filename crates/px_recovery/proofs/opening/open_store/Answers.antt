@@ -9,4 +9,4 @@ pub returns-in-Err-clause-told : goal.returns-in-Err-clause-told
 returns-in-Err-clause-told g c t = told_stays (c.open_parts.ensures.quiet t)
 
 pub returns-in-Err-clause-sound : goal.returns-in-Err-clause-sound
-returns-in-Err-clause-sound g c t restart changes says = only_passing (g.W.Site.state c.args.site).content restart changes c.in-Err.error says (c.in-Err.ensures.refused t)
+returns-in-Err-clause-sound g c t restart changes finds = only_passing (g.W.Site.state c.args.site).content restart changes c.in-Err.error finds (c.in-Err.ensures.refused t)

@@ -9,7 +9,7 @@ use Rattle.px_play.specs.Playing.{pieces_of}
 use Rattle.px_play.specs.Acknowledged.{acknowledged}
 use Rattle.px_run.specs.Running.{run_pieces}
 use Rattle.px_calls.specs.Texts.{reply_text, opened_line}
-use Rattle.px_xlog.specs.Reading.{base_after}
+use Rattle.px_standing.specs.Standing.{base_after}
 use Rattle.px_told.specs.Commits.{commits_in}
 use Rattle.px_told.specs.Writes.{rows_in}
 use Rattle.px_logged.specs.Logged.{logged}

@@ -9,12 +9,12 @@ pub returns-in-Err-clause-cause : goal.returns-in-Err-clause-cause
 returns-in-Err-clause-cause g c =
     let old = g.W.Site.counts c.args.site.now in
     let new = g.W.Site.counts c.make.new.site in
-    subst (HasStatusCause (Some (Make c.args.tables c.args.short)) old new 0 0) (sym c.status_of_make.ensures)
+    subst (HasStatusCause (Some (Make c.args.tables c.args.short)) old new 0 0) (sym c.from.ensures)
     (not_made_cause c.args.tables c.args.short old new c.in-Err.error c.in-Err.ensures.cause c.in-Err.ensures.own)
 
 pub returns-in-Err-clause-makes : goal.returns-in-Err-clause-makes
 returns-in-Err-clause-makes g c t =
-    subst (MakesStore c.args.tables c.args.short _ _) (sym c.status_of_make.ensures)
+    subst (MakesStore c.args.tables c.args.short _ _) (sym c.from.ensures)
     (not_made c.args.tables c.args.short _ _ c.in-Err.error (c.make.ensures.first_alone t) (c.in-Err.ensures.refused t))
 
 pub returns-in-Err-clause-moments : goal.returns-in-Err-clause-moments

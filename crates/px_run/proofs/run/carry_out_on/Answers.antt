@@ -2,7 +2,7 @@ use Rattle.std.proofs.Common.{sym, subst}
 use Rattle.px_site.specs.State.{EachMoment}
 use Rattle.px_told.specs.Commits.{commits_in}
 use Rattle.px_told.specs.Writes.{rows_in}
-use Rattle.px_xlog.specs.Images.{ImagesAreNew, ImagesStandFor}
+use Rattle.px_standing.specs.Images.{ImagesAreNew, ImagesStandFor}
 use Rattle.px_play.specs.Acknowledged.{KeepsAcknowledged}
 use Rattle.px_play.specs.Input.{script_of}
 use Rattle.px_run.specs.Causes.{HasStatusCause, NoCountFell, ShowsRefusal}

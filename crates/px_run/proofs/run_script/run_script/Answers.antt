@@ -21,7 +21,7 @@ returns-in-Ok-clause-runs g c = λ tells source_tells restart changes store.
     let before = state c.args.site in
     let status = c.play_opened-status.result in
     let this = opens_this restart changes before.content c.in-Ok.opened.core c.in-Ok.opened.report (settled_shows restart changes before store) (c.in-Ok.ensures.opened tells) in
-    let stored = c.in-Ok.ensures.stored tells restart changes (commits_in changes) (rows_in changes) store.says store.settled in
+    let stored = c.in-Ok.ensures.stored tells restart changes (commits_in changes) (rows_in changes) store.finds store.settled in
     subst (λ (site : g.row.W.Denot). RunsScript restart changes (left c.args.source.now) (left c.play_opened-status.new.source) before (state site) status) (sym c.close-site.ensures)
     (run_behind (c.in-Ok.ensures.told tells) (c.play_opened-status.ensures.runs tells source_tells restart changes stored this.machine this.report_is))
 
@@ -31,7 +31,7 @@ returns-in-Ok-clause-moments g c = λ tells source_tells restart changes store.
     let before = state c.args.site in
     let script = script_of (g.S.Source.left c.args.source.now) in
     let this = opens_this restart changes before.content c.in-Ok.opened.core c.in-Ok.opened.report (settled_shows restart changes before store) (c.in-Ok.ensures.opened tells) in
-    let stored = c.in-Ok.ensures.stored tells restart changes (commits_in changes) (rows_in changes) store.says store.settled in
+    let stored = c.in-Ok.ensures.stored tells restart changes (commits_in changes) (rows_in changes) store.finds store.settled in
     subst (λ (site : g.row.W.Denot). EachMoment (KeepsAcknowledged (machine_after restart changes script) before.now.told) before (state site)) (sym c.close-site.ensures)
     (moments_behind restart changes script (c.in-Ok.ensures.told tells) (c.in-Ok.ensures.moments tells (commits_in changes) (rows_in changes) store.settled)
     (c.play_opened-status.ensures.moments tells source_tells restart changes stored this.machine this.report_is))
@@ -41,8 +41,8 @@ returns-in-Err-clause-runs g c = λ tells source_tells restart changes store.
     let input = g.S.Source.left c.args.source.now in
     let before = g.W.Site.state c.args.site in
     let now = g.W.Site.state c.in-Err.refused.site in
-    subst (RunsScript restart changes input input before now) (sym c.status_of_opening.ensures)
-    (not_opened restart changes input before now c.in-Err.refused.error (c.in-Err.ensures.sound tells restart changes store.says) (c.in-Err.ensures.told tells))
+    subst (RunsScript restart changes input input before now) (sym c.from.ensures)
+    (not_opened restart changes input before now c.in-Err.refused.error (c.in-Err.ensures.sound tells restart changes store.finds) (c.in-Err.ensures.told tells))
 
 pub returns-in-Err-clause-moments : goal.returns-in-Err-clause-moments
 returns-in-Err-clause-moments g c = λ tells source_tells restart changes store.

@@ -4,8 +4,9 @@ use Rattle.px_site.specs.State.{State}
 use Rattle.px_site.proofs.Causes.{then_none_fell, no_fall}
 use Rattle.px_frame.specs.Frame.{payload_at}
 use Rattle.px_told.specs.declared.change.Change.{Change}
+use Rattle.px_xlog.specs.Window.{longest_frame}
 use Rattle.px_xlog.specs.Payload.{may_hold_all}
-use Rattle.px_xlog.specs.Reading.{the_log}
+use Rattle.px_xlog.specs.Contents.{the_log}
 use Rattle.px_xlog.specs.Scanning.{FindsForeign, IsNext}
 use Rattle.px_xlog.specs.Window.{Sees}
 use Rattle.px_xlog.proofs.LogReading.{IsReading, reading_begins, reading_goes_on, held_goes_on, reading_ends, damage_found}
@@ -29,7 +30,7 @@ loop-changes-preserved g c =
     let l = c.loop-changes in
     let small = rw c.in-Some.is at c.in_ok-change.ensures.small in
     let below : l.frames < 2 ^ 48 = small.0 in
-    let short : c.in-Some.size ≤ 8208 = small.1 in
+    let short : c.in-Some.size ≤ longest_frame = small.1 in
     record {
       small = omega (arith, l.invariant.small);
       bounded = omega arith;

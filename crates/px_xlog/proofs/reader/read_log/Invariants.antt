@@ -1,8 +1,8 @@
 use Rattle.std.proofs.Common.{◌≡◌, ◌*◌, ◌-◌, ◌^◌, ◌≤◌, true, length}
 use Rattle.px_site.specs.Cause.{NoneFell}
 use Rattle.px_xlog.specs.Payload.{may_hold_all}
-use Rattle.px_xlog.specs.Reading.{the_log}
-use Rattle.px_xlog.specs.Window.{Sees}
+use Rattle.px_xlog.specs.Contents.{the_log}
+use Rattle.px_xlog.specs.Window.{Sees, longest_frame}
 use Rattle.px_xlog.proofs.LogReading.{IsReading}
 use Rattle.px_xlog.proofs.reader.read_log.Given as goal
 
@@ -10,7 +10,7 @@ abbrev pub invariant-loop-changes : goal.invariant-loop-changes
 invariant-loop-changes g l =
     let state = g.W.Site.state in
     record {
-      small : l.stop ≤ 8208 * l.frames;
+      small : l.stop ≤ longest_frame * l.frames;
       bounded : l.frames ≤ 2 ^ 48;
       held : may_hold_all l.tables 0 l.changes ≡ true;
       count : l.frames ≡ length l.changes;

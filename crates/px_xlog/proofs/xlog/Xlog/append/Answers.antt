@@ -1,4 +1,5 @@
 use Rattle.std.proofs.Common.{◌≡◌, ℕ, ◌+◌, ◌-◌, ◌*◌, ◌^◌, ◌<◌, ◌≤◌, [], ◌∷◌, ◌++◌, length, if◌then◌else◌, sym, ap, subst, ◌∙◌, arith}
+use Rattle.px_xlog.specs.Window.{longest_frame}
 use Rattle.px_xlog.specs.Log.{Log, IsLogOf, with_frame}
 use Rattle.px_told.specs.Changes.{is_end}
 use Rattle.px_xlog.proofs.FramesOfChanges.{may_be_written}
@@ -13,7 +14,7 @@ write_at-requires g c =
     let below : c.self.inside.frames < 2 ^ 32 = c.if-number-ge-MOST_FRAMES.false in
     let may = may_append c.args.self.now c.args.change.now c.as_slice-frame.result.now c.self.inside.frames (ap (λ (l : Log). l.frames) c.self.view_is) (omega arith) c.requires (c.as_slice-frame.ensures ∙ c.in_ok-fill.ensures.frame) in
     let short = short_frame c.args.self.now c.args.change.now c.as_slice-frame.result.now may in
-    let sized : c.self.inside.size ≤ 8208 * c.self.inside.frames = c.self.invariant.0 in
+    let sized : c.self.inside.size ≤ longest_frame * c.self.inside.frames = c.self.invariant.0 in
     omega arith
 
 pub returns-in_err-write_at-clause-moments : goal.returns-in_err-write_at-clause-moments
@@ -27,8 +28,8 @@ invariant_of-self-2 g c =
     let below : c.self.inside.frames < 2 ^ 32 = c.if-number-ge-MOST_FRAMES.false in
     let may = may_append c.args.self.now c.args.change.now c.as_slice-frame.result.now c.self.inside.frames (ap (λ (l : Log). l.frames) c.self.view_is) (omega arith) c.requires (c.as_slice-frame.ensures ∙ c.in_ok-fill.ensures.frame) in
     let short = short_frame c.args.self.now c.args.change.now c.as_slice-frame.result.now may in
-    let sized : c.self.inside.size ≤ 8208 * c.self.inside.frames = c.self.invariant.0 in
-    let more : c.self.inside.size + length c.as_slice-frame.result.now ≤ 8208 * (c.self.inside.frames + 1) = omega arith in
+    let sized : c.self.inside.size ≤ longest_frame * c.self.inside.frames = c.self.invariant.0 in
+    let more : c.self.inside.size + length c.as_slice-frame.result.now ≤ longest_frame * (c.self.inside.frames + 1) = omega arith in
     (more, omega arith)
 
 pub returns-clause-moments : goal.returns-clause-moments

@@ -1,3 +1,5 @@
 pub mod Calls
+pub mod Cutting
+pub mod Finding
 pub mod Settling
 pub mod Standing

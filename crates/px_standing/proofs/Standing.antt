@@ -1,5 +1,5 @@
 -- What a crash leaves of a log to which a call of the core appends.
-use Rattle.std.proofs.Common.{◌≡◌, ◌⊎◌, ℕ, suc, zero, ◌+◌, ◌^◌, ◌<◌, ◌≤◌, true, false, ◌&&◌, List, [], ◌∷◌, ◌++◌, length, map, take, refl, sym, ap, subst, ◌∙◌, inl, inr, arith, length-append, length-take}
+use Rattle.std.proofs.Common.{◌≡◌, ◌⊎◌, ℕ, suc, zero, ◌+◌, ◌-◌, ◌^◌, ◌<◌, ◌≤◌, true, false, ◌&&◌, List, [], ◌∷◌, ◌++◌, length, map, take, refl, sym, ap, subst, ◌∙◌, inl, inr, arith, length-append, length-take}
 use Rattle.std.specs.List.{AllByRecursion}
 use Rattle.std.proofs.lemmas.Bool.{and_parts, and_from, cases_lt}
 use Rattle.std.proofs.lemmas.List.{take_all, take-append-le}
@@ -12,20 +12,27 @@ use Rattle.px_scan.specs.Scan.{frames_of}
 use Rattle.px_scan.proofs.Scans.{frames_of-frames}
 use Rattle.px_restart.specs.declared.restart.Restart.{Restart}
 use Rattle.px_restart.specs.Restart.{IsPicked}
-use Rattle.px_model.specs.Machine.{Machine, commits}
+use Rattle.px_model.specs.declared.row.Row.{Row}
+use Rattle.px_model.specs.Machine.{Machine, commits, published}
+use Rattle.px_calls.specs.declared.call.Call.{Call}
+use Rattle.px_calls.specs.declared.call.Call.TheVariants.{Commit}
+use Rattle.px_calls.specs.Steps.{state_after}
 use Rattle.px_told.specs.declared.change.Change.{Change}
 use Rattle.px_xlog.specs.Payload.{change_text, may_hold, may_hold_all}
-use Rattle.px_xlog.specs.Reading.{Files, the_log, first_restart, second_restart, log_text, Says, StandsFor}
+use Rattle.px_standing.specs.Standing.{Files, first_restart, second_restart, Finds, StandsFor}
+use Rattle.px_xlog.specs.Contents.{the_log, log_text}
 use Rattle.px_told.specs.Commits.{CountsFrom, commits_in}
 use Rattle.px_told.specs.Writes.{rows_in}
-use Rattle.px_xlog.specs.Images.{IsPlainImage}
+use Rattle.px_standing.specs.Images.{IsPlainImage}
 use Rattle.px_xlog.specs.Log.{Log, IsLogOf, HasFirst}
 use Rattle.px_xlog.proofs.AtRest.{image_of_rest}
 use Rattle.px_xlog.proofs.FramesOfChanges.{can_frames}
 use Rattle.px_told.specs.Commits.{HasAll}
 use Rattle.px_logged.specs.Recounting.{Recounts, rows_now}
+use Rattle.px_logged.proofs.Grown.{opening_stays, commits_rise, published_stays}
 use Rattle.px_told.proofs.Commits.{kept_has_all}
-use Rattle.px_stored.specs.Stored.{RestartsRest, Stored, HasCommitted, StandsForEither, ReadsImages}
+use Rattle.px_standing.specs.Stored.{RestartsRest, Stored, ReadsImages}
+use Rattle.px_standing.specs.Images.{acked, HasCommitted, HasBetween, StandsBetween}
 
 -- ---- one image
 
@@ -55,9 +62,11 @@ front_stands restart changes m now files image kept picked rests plain held reac
     record {
       restart = restart;
       changes = take kept changes;
-      says = record {
+      finds = record {
         picked = subst (λ (b : List ℕ). IsPicked (image (RestartFile 0)) b restart) (sym second) (subst (λ (a : List ℕ). IsPicked a (second_restart files) restart) (sym first) picked);
-        scan = record { scanned = scanned; held = held_front restart.tables 0 kept changes held; reached = omega (arith, reached, within, length-take kept changes) };
+        scanned = scanned;
+        held = held_front restart.tables 0 kept changes held;
+        reached = omega (arith, reached, within, length-take kept changes);
         counted = all.counted;
       };
       commits_are = commits_are ∙ sym all.commits;
@@ -77,41 +86,58 @@ image_stands restart changes durable m now files image picked rests growing firs
     let all = kept_has_all durable r.0 changes growing.counted growing.durable_commits r.1 in
     front_stands restart changes m now files image r.0 picked rests plain growing.held (omega (arith, growing.reached, r.1)) r.2 all growing.commits_are growing.rows_are r.3
 
+-- what a machine has committed before a call is among what it has published after it
+before_call : (m : Machine) (session : ℕ) (call : Call) (image : Files) → HasCommitted m image → HasBetween (acked m) (commits (state_after m session call)) (state_after m session call) image
+before_call m session call image has =
+    let next : Machine = state_after m session call in
+    let calls : List (ℕ × Call) = (session, call) ∷ [] in
+    let same : next.before ≡ m.before = (opening_stays m calls).before in
+    let rows : published m (commits m - m.before) ≡ published next (commits m - next.before) =
+    sym (published_stays m calls (commits m - m.before) (omega arith)) ∙ ap (λ (b : ℕ). published next (commits m - b)) (sym same) in
+    record { count = commits m; no_less = omega arith; no_more = commits_rise m calls; stands = subst (λ (r : List Row). StandsFor image (commits m) r) rows has }
+
+after_call : (m : Machine) (session : ℕ) (call : Call) (image : Files) → HasCommitted (state_after m session call) image → HasBetween (acked m) (commits (state_after m session call)) (state_after m session call) image
+after_call m session call image has = record { count = commits (state_after m session call); no_less = commits_rise m ((session, call) ∷ []); no_more = omega arith; stands = has }
+
 -- while frames are appended that commit nothing
-pub growing_stands : (restart : Restart) (changes : List Change) (durable : ℕ) (m next : Machine) (before now : Moment) (files : Files) → IsPicked (first_restart files) (second_restart files) restart
-    → RestartsRest before files → IsGrowing restart changes durable m → OnFile the_log before (HasFirst durable changes) now → StandsForEither m next before now
-growing_stands restart changes durable m next before now files picked rests growing on = record {
-  each = λ image plain. inl (image_stands restart changes durable m now files image picked (rests_on before now files rests on) growing on.this plain);
+pub growing_stands : (restart : Restart) (changes : List Change) (durable : ℕ) (m : Machine) (session : ℕ) (call : Call) (before now : Moment) (files : Files) → IsPicked (first_restart files) (second_restart files) restart
+    → RestartsRest before files → IsGrowing restart changes durable m → OnFile the_log before (HasFirst durable changes) now
+    → StandsBetween (acked m) (commits (state_after m session call)) (state_after m session call) before now
+growing_stands restart changes durable m session call before now files picked rests growing on = record {
+  each = λ image plain. before_call m session call image (image_stands restart changes durable m now files image picked (rests_on before now files rests on) growing on.this plain);
   told = on.told;
   telling = on.telling;
 }
 
 -- while a Commit frame is appended and synced
-pub committing_stands : (restart : Restart) (changes : List Change) (change : Change) (durable : ℕ) (m next : Machine) (before now : Moment) (files : Files) → IsPicked (first_restart files) (second_restart files) restart
+pub committing_stands : (restart : Restart) (changes : List Change) (change : Change) (durable : ℕ) (m : Machine) (session : ℕ) (before now : Moment) (files : Files) → IsPicked (first_restart files) (second_restart files) restart
     → RestartsRest before files → IsGrowing restart changes durable m → may_hold_all restart.tables 0 (changes ++ change ∷ []) ≡ true → CountsFrom 0 (changes ++ change ∷ [])
-    → commits next ≡ commits_in (changes ++ change ∷ []) → rows_now next ≡ rows_in (changes ++ change ∷ [])
-    → OnFile the_log before (HasFirst durable (changes ++ change ∷ [])) now → StandsForEither m next before now
-committing_stands restart changes change durable m next before now files picked rests growing held counted commits_are rows_are on = record {
+    → commits (state_after m session Commit) ≡ commits_in (changes ++ change ∷ []) → rows_now (state_after m session Commit) ≡ rows_in (changes ++ change ∷ [])
+    → OnFile the_log before (HasFirst durable (changes ++ change ∷ [])) now → StandsBetween (acked m) (commits (state_after m session Commit)) (state_after m session Commit) before now
+committing_stands restart changes change durable m session before now files picked rests growing held counted commits_are rows_are on = record {
   each = λ image plain. stands image plain (on.this.each (image the_log) (plain.each the_log) plain.log);
   told = on.told;
   telling = on.telling;
 }
   where
+    next : Machine
+    next = state_after m session Commit
+
     longer : length (changes ++ change ∷ []) ≡ length changes + 1
     longer = omega (arith, length-append changes (change ∷ []))
 
     stands : (image : Files) → IsPlainImage now image → (kept : ℕ) × (durable ≤ kept) × (kept ≤ length (changes ++ change ∷ [])) × (frames_of (image the_log) 0 ≡ map change_text (take kept (changes ++ change ∷ [])))
-        → HasCommitted m image ⊎ HasCommitted next image
+        → HasBetween (acked m) (commits next) next image
     stands image plain r = elim (cases_lt (length changes) r.0) [
       | inl whole ↦
           let is : r.0 ≡ length (changes ++ change ∷ []) = omega (arith, whole, r.2, longer) in
           let same : take r.0 (changes ++ change ∷ []) ≡ changes ++ change ∷ [] = take_all r.0 (changes ++ change ∷ []) (omega (arith, is)) in
           let all : HasAll r.0 (changes ++ change ∷ []) = record { counted = subst (CountsFrom 0) (sym same) counted; commits = ap commits_in same; rows = ap rows_in same } in
-          inr (front_stands restart (changes ++ change ∷ []) next now files image r.0 picked (rests_on before now files rests on) plain held (omega (arith, growing.reached, r.1)) r.2 all commits_are rows_are r.3)
+          after_call m session Commit image (front_stands restart (changes ++ change ∷ []) next now files image r.0 picked (rests_on before now files rests on) plain held (omega (arith, growing.reached, r.1)) r.2 all commits_are rows_are r.3)
       | inr part ↦
           let same : take r.0 (changes ++ change ∷ []) ≡ take r.0 changes = take-append-le r.0 changes (change ∷ []) part in
           let all = kept_has_all durable r.0 changes growing.counted growing.durable_commits r.1 in
-          inl (front_stands restart changes m now files image r.0 picked (rests_on before now files rests on) plain growing.held (omega (arith, growing.reached, r.1)) part all growing.commits_are growing.rows_are (r.3 ∙ ap (map change_text) same))
+          before_call m session Commit image (front_stands restart changes m now files image r.0 picked (rests_on before now files rests on) plain growing.held (omega (arith, growing.reached, r.1)) part all growing.commits_are growing.rows_are (r.3 ∙ ap (map change_text) same))
     ]
 
 -- ---- the last moment of a call
@@ -154,16 +180,14 @@ picked_after {P} {a} {b} restart moments rests reads picked =
 -- ---- what stands after a call
 
 -- the log reads as its changes
-pub log_says : (restart : Restart) (log : Log) (changes : List Change) (s : State) → IsLogOf log changes s → log.frames ≤ 2 ^ 48 → log.tables ≡ restart.tables → restart.durable ≤ log.durable
-    → IsPicked (first_restart s.content) (second_restart s.content) restart → CountsFrom 0 changes → Says s.content restart changes
+pub log_found : (restart : Restart) (log : Log) (changes : List Change) (s : State) → IsLogOf log changes s → log.frames ≤ 2 ^ 48 → log.tables ≡ restart.tables → restart.durable ≤ log.durable
+    → IsPicked (first_restart s.content) (second_restart s.content) restart → CountsFrom 0 changes → Finds s.content restart changes
 unfolding log_text
-log_says restart log changes s is below tables reached picked counted = record {
+log_found restart log changes s is below tables reached picked counted = record {
   picked = picked;
-  scan = record {
-    scanned = ap (λ (bytes : List ℕ). frames_of bytes 0) is.content ∙ frames_of-frames 0 (map change_text changes) (can_frames log.tables 0 changes is.held (omega (arith, is.count, below)));
-    held = subst (λ (t : ℕ). may_hold_all t 0 changes ≡ true) tables is.held;
-    reached = omega (arith, reached, is.durable);
-  };
+  scanned = ap (λ (bytes : List ℕ). frames_of bytes 0) is.content ∙ frames_of-frames 0 (map change_text changes) (can_frames log.tables 0 changes is.held (omega (arith, is.count, below)));
+  held = subst (λ (t : ℕ). may_hold_all t 0 changes ≡ true) tables is.held;
+  reached = omega (arith, reached, is.durable);
   counted = counted;
 }
 
@@ -172,7 +196,7 @@ pub stored_on : {P : FileState → Type 0} {a b : State} {restart : Restart} {ch
     → Stored restart changes log m a → IsLogOf grown later b → grown.frames ≤ 2 ^ 48 → grown.tables ≡ log.tables → log.durable ≤ grown.durable → CountsFrom 0 later
     → commits_in (take grown.durable later) ≡ commits next → Recounts later next → Stored restart later grown next b
 stored_on {P} {a} {b} {restart} {changes} {later} {log} {grown} {m} {next} moments reads stored is below tables durable counted commits_durable did = record {
-  says = log_says restart grown later b is below (tables ∙ stored.tables) (omega (arith, stored.reached, durable)) (picked_after restart moments stored.rests reads stored.says.picked) counted;
+  finds = log_found restart grown later b is below (tables ∙ stored.tables) (omega (arith, stored.reached, durable)) (picked_after restart moments stored.rests reads stored.finds.picked) counted;
   log = is;
   rests = rests_after moments stored.rests reads;
   tables = tables ∙ stored.tables;

@@ -13,7 +13,7 @@ use Rattle.px_calls.specs.declared.call.Call.TheVariants.{Commit}
 use Rattle.px_calls.specs.Steps.{state_after}
 use Rattle.px_told.specs.declared.change.Change.{Change}
 use Rattle.px_xlog.specs.Payload.{may_hold, may_hold_all}
-use Rattle.px_xlog.specs.Reading.{the_log}
+use Rattle.px_xlog.specs.Contents.{the_log}
 use Rattle.px_told.specs.Commits.{CountsFrom, commits_in}
 use Rattle.px_xlog.specs.Log.{Log, IsLogOf, HasFirst, with_frame}
 use Rattle.px_xlog.proofs.FramesOfChanges.{hold_more}
@@ -23,9 +23,10 @@ use Rattle.px_logged.specs.Recounting.{Recounts, rows_now}
 use Rattle.px_logged.proofs.Numbered.{counts_more}
 use Rattle.px_logged.proofs.Grown.{others_keep_committed}
 use Rattle.px_logged.proofs.Recounted.{call_recounts}
-use Rattle.px_stored.specs.Stored.{Stored, StandsForEither, ReadsImages}
-use Rattle.px_stored.proofs.Settling.{grows}
-use Rattle.px_stored.proofs.Standing.{IsGrowing, growing_stands, committing_stands, last_moment, stored_on}
+use Rattle.px_standing.specs.Stored.{Stored, ReadsImages}
+use Rattle.px_standing.specs.Images.{acked, StandsBetween}
+use Rattle.px_standing.proofs.Settling.{grows}
+use Rattle.px_standing.proofs.Standing.{IsGrowing, growing_stands, committing_stands, last_moment, stored_on}
 
 -- ---- nothing is added
 
@@ -35,7 +36,7 @@ stored_still restart changes log m s session call none stored =
     let same : changes ++ logged m session call ≡ changes = ap (λ (l : List Change). changes ++ l) none ∙ append-nil changes in
     let did : Recounts changes (state_after m session call) = subst (λ (l : List Change). Recounts l (state_after m session call)) same (call_recounts changes m session call stored.did) in
     subst (λ (l : List Change). Stored restart l log (state_after m session call) s) (sym same) (record {
-      says = stored.says;
+      finds = stored.finds;
       log = stored.log;
       rests = stored.rests;
       tables = stored.tables;
@@ -58,27 +59,27 @@ held_one : (restart : Restart) (changes : List Change) (log : Log) (m : Machine)
     → may_hold_all restart.tables 0 (changes ++ change ∷ []) ≡ true
 held_one restart changes log m s change stored held =
     let number : log.frames ≡ 0 + length changes = omega (arith, stored.log.count) in
-    hold_more restart.tables 0 changes change stored.says.scan.held (subst (λ (n : ℕ). may_hold restart.tables n change ≡ true) number (subst (λ (t : ℕ). may_hold t log.frames change ≡ true) stored.tables held))
+    hold_more restart.tables 0 changes change stored.finds.held (subst (λ (n : ℕ). may_hold restart.tables n change ≡ true) number (subst (λ (t : ℕ). may_hold t log.frames change ≡ true) stored.tables held))
 
 durable_front : (restart : Restart) (changes : List Change) (log : Log) (m : Machine) (s : State) (change : Change) → Stored restart changes log m s → commits_in (take log.durable (changes ++ change ∷ [])) ≡ commits m
 durable_front restart changes log m s change stored = ap commits_in (take-append-le log.durable changes (change ∷ []) stored.log.durable) ∙ stored.durable
 
 -- what stands while a frame that commits nothing is appended
-pub appending_stands : {a b : State} (restart : Restart) (changes : List Change) (log : Log) (m next : Machine) (session : ℕ) (call : Call) (change : Change) → call ≢ Commit → logged m session call ≡ change ∷ []
+pub appending_stands : {a b : State} (restart : Restart) (changes : List Change) (log : Log) (m : Machine) (session : ℕ) (call : Call) (change : Change) → call ≢ Commit → logged m session call ≡ change ∷ []
     → may_hold log.tables log.frames change ≡ true → Stored restart changes log m a → EachMoment (OnFile the_log a.now (HasFirst log.durable (changes ++ change ∷ []))) a b
-    → EachMoment (StandsForEither m next a.now) a b
-appending_stands {a} {b} restart changes log m next session call change other adds held stored moments =
+    → EachMoment (StandsBetween (acked m) (commits (state_after m session call)) (state_after m session call) a.now) a b
+appending_stands {a} {b} restart changes log m session call change other adds held stored moments =
     let did = recounts_one changes m session call change adds stored.did in
     let kept = others_keep_committed m session call other in
     let growing : IsGrowing restart (changes ++ change ∷ []) log.durable m = record {
       held = held_one restart changes log m a change stored held;
-      counted = counts_one changes m session call change adds stored.did stored.says.counted;
+      counted = counts_one changes m session call change adds stored.did stored.finds.counted;
       reached = stored.reached;
       durable_commits = durable_front restart changes log m a change stored ∙ sym kept.commits ∙ did.commits_are;
       commits_are = sym kept.commits ∙ did.commits_are;
       rows_are = sym kept.rows ∙ did.rows_are;
     } in
-    weaker_moments (λ now on. growing_stands restart (changes ++ change ∷ []) log.durable m next a.now now a.content stored.says.picked stored.rests growing on) moments
+    weaker_moments (λ now on. growing_stands restart (changes ++ change ∷ []) log.durable m session call a.now now a.content stored.finds.picked stored.rests growing on) moments
 
 pub stored_appended : {a b : State} (restart : Restart) (changes : List Change) (log grown : Log) (m : Machine) (session : ℕ) (call : Call) (change : Change) → call ≢ Commit → logged m session call ≡ change ∷ []
     → grown ≡ with_frame change log → grown.frames ≤ 2 ^ 48 → Stored restart changes log m a → EachMoment (OnFile the_log a.now (HasFirst log.durable (changes ++ change ∷ []))) a b
@@ -88,7 +89,7 @@ stored_appended {a} {b} restart changes log grown m session call change other ad
     let durable : grown.durable ≡ log.durable = ap (λ (l : Log). l.durable) is in
     subst (λ (l : List Change). Stored restart (changes ++ l) grown (state_after m session call) b) (sym adds)
     (stored_on moments reads stored log_is below (ap (λ (l : Log). l.tables) is) (omega (arith, durable))
-    (counts_one changes m session call change adds stored.did stored.says.counted)
+    (counts_one changes m session call change adds stored.did stored.finds.counted)
     (ap (λ (n : ℕ). commits_in (take n (changes ++ change ∷ []))) durable ∙ durable_front restart changes log m a change stored ∙ sym kept.commits)
     (recounts_one changes m session call change adds stored.did))
 
@@ -110,11 +111,11 @@ both_moments {P} {a} {b} {c} first second = then_moments first (weaker_moments (
 
 pub commit_stands : {a b : State} (restart : Restart) (changes : List Change) (log : Log) (m : Machine) (session : ℕ) (change : Change) → logged m session Commit ≡ change ∷ []
     → may_hold log.tables log.frames change ≡ true → Stored restart changes log m a → EachMoment (OnFile the_log a.now (HasFirst log.durable (changes ++ change ∷ []))) a b
-    → EachMoment (StandsForEither m (state_after m session Commit) a.now) a b
+    → EachMoment (StandsBetween (acked m) (commits (state_after m session Commit)) (state_after m session Commit) a.now) a b
 commit_stands {a} {b} restart changes log m session change adds held stored moments =
     let did = recounts_one changes m session Commit change adds stored.did in
-    weaker_moments (λ now on. committing_stands restart changes change log.durable m (state_after m session Commit) a.now now a.content stored.says.picked stored.rests (grows restart changes log m a stored)
-    (held_one restart changes log m a change stored held) (counts_one changes m session Commit change adds stored.did stored.says.counted) did.commits_are did.rows_are on) moments
+    weaker_moments (λ now on. committing_stands restart changes change log.durable m session a.now now a.content stored.finds.picked stored.rests (grows restart changes log m a stored)
+    (held_one restart changes log m a change stored held) (counts_one changes m session Commit change adds stored.did stored.finds.counted) did.commits_are did.rows_are on) moments
 
 pub stored_committed : {a b : State} (restart : Restart) (changes : List Change) (log grown : Log) (m : Machine) (session : ℕ) (change : Change) → logged m session Commit ≡ change ∷ []
     → grown.tables ≡ log.tables → grown.durable ≡ log.frames + 1 → grown.frames ≤ 2 ^ 48 → Stored restart changes log m a → EachMoment (OnFile the_log a.now (HasFirst log.durable (changes ++ change ∷ []))) a b
@@ -125,4 +126,4 @@ stored_committed {a} {b} restart changes log grown m session change adds tables 
     let all : take grown.durable later ≡ later = take_all grown.durable later (omega (arith, durable, stored.log.count, length-append changes (change ∷ []))) in
     subst (λ (l : List Change). Stored restart (changes ++ l) grown (state_after m session Commit) b) (sym adds)
     (stored_on moments reads stored log_is below tables (omega (arith, durable, stored.log.count, stored.log.durable))
-    (counts_one changes m session Commit change adds stored.did stored.says.counted) (ap commits_in all ∙ sym did.commits_are) did)
+    (counts_one changes m session Commit change adds stored.did stored.finds.counted) (ap commits_in all ∙ sym did.commits_are) did)

@@ -1,5 +1,5 @@
--- A site that holds all of a machine, and what a crash leaves of it.
-use Rattle.std.specs.Prelude.{◌≡◌, ◌⊎◌, ℕ, ◌+◌, ◌-◌, ◌^◌, ◌≤◌, List, [], take}
+-- A site that holds all of a machine.
+use Rattle.std.specs.Prelude.{◌≡◌, ◌^◌, ◌≤◌, List, take}
 use Rattle.px_site.specs.declared.name.FileName.{FileName}
 use Rattle.px_site.specs.declared.name.FileName.TheVariants.{Restart as RestartFile}
 use Rattle.px_site.specs.Disk.{IsImage, at_rest}
@@ -7,36 +7,26 @@ use Rattle.px_site.specs.State.{State, Moment}
 use Rattle.px_restart.specs.declared.restart.Restart.{Restart}
 use Rattle.px_model.specs.Machine.{Machine, commits}
 use Rattle.px_told.specs.declared.change.Change.{Change}
-use Rattle.px_xlog.specs.Reading.{Files, first_restart, second_restart, Says, StandsFor}
 use Rattle.px_told.specs.Commits.{commits_in}
-use Rattle.px_xlog.specs.Images.{IsPlainImage, IsSettledStore}
 use Rattle.px_xlog.specs.Log.{Log, IsLogOf}
-use Rattle.px_logged.specs.Recounting.{Recounts, rows_now}
+use Rattle.px_logged.specs.Recounting.{Recounts}
+use Rattle.px_standing.specs.Settled.{IsSettledStore}
+use Rattle.px_standing.specs.Standing.{Files, first_restart, second_restart, Finds}
 
 -- both restart files are on the disk as they read
 pub record RestartsRest (m : Moment) (files : Files) : Type 0 where
   pub first : m.files (RestartFile 0) ≡ at_rest (first_restart files)
   pub second : m.files (RestartFile 1) ≡ at_rest (second_restart files)
 
--- the site says this restart and these changes, each Commit of which is durable, and they are what the machine did
+-- this restart and these changes are found on the site, each Commit of them is durable, and they are what the machine did
 pub record Stored (restart : Restart) (changes : List Change) (kept : Log) (m : Machine) (s : State) : Type 0 where
-  pub says : Says s.content restart changes
+  pub finds : Finds s.content restart changes
   pub log : IsLogOf kept changes s
   pub rests : RestartsRest s.now s.content
   pub tables : kept.tables ≡ restart.tables
   pub reached : restart.durable ≤ kept.durable
   pub durable : commits_in (take kept.durable changes) ≡ commits m
   pub did : Recounts changes m
-
--- the files stand for what the machine has committed
-abbrev pub HasCommitted : Machine → Files → Type 0
-HasCommitted m image = StandsFor image (commits m) (rows_now m)
-
--- whatever a crash at this moment leaves stands for what one of two machines has committed, and nothing is told meanwhile
-pub record StandsForEither (m next : Machine) (before now : Moment) : Type 0 where
-  pub each : (image : Files) → IsPlainImage now image → HasCommitted m image ⊎ HasCommitted next image
-  pub told : now.told ≡ before.told
-  pub telling : now.telling ≡ []
 
 -- what a read returns is what a crash may leave, as each site promises
 abbrev pub ReadsImages : State → Type 0

@@ -16,17 +16,20 @@ use Rattle.px_model.specs.declared.row.Row.{Row}
 use Rattle.px_model.specs.Machine.{Machine, commits}
 use Rattle.px_told.specs.declared.change.Change.{Change}
 use Rattle.px_xlog.specs.Payload.{change_text, may_hold_all}
-use Rattle.px_xlog.specs.Reading.{Files, the_log, log_text, first_restart, second_restart, StandsFor}
+use Rattle.px_standing.specs.Standing.{Files, first_restart, second_restart, StandsFor}
+use Rattle.px_xlog.specs.Contents.{the_log, log_text}
 use Rattle.px_told.specs.Commits.{commits_in}
 use Rattle.px_told.specs.Writes.{rows_in}
-use Rattle.px_xlog.specs.Images.{HasAt, IsBehind, IsPlainRestart, IsPlainLog, IsPlainImage, Settled, IsSettledStore}
+use Rattle.px_xlog.specs.Written.{HasAt, IsBehind, IsPlainLog}
+use Rattle.px_standing.specs.Images.{IsPlainRestart, IsPlainImage}
+use Rattle.px_standing.specs.Settled.{Settled, IsSettledStore}
 use Rattle.px_xlog.specs.Log.{Log, HasFirst, IsLogOf, appended, grown_file}
 use Rattle.px_xlog.proofs.Appending.{appended_behind, log_parts, first_survive}
 use Rattle.px_xlog.proofs.FramesOfChanges.{can_frames}
 use Rattle.px_xlog.proofs.Growing.{overlay_end}
 use Rattle.px_logged.specs.Recounting.{Recounts, rows_now}
-use Rattle.px_stored.specs.Stored.{RestartsRest, Stored, ReadsImages}
-use Rattle.px_stored.proofs.Standing.{IsGrowing, image_stands}
+use Rattle.px_standing.specs.Stored.{RestartsRest, Stored, ReadsImages}
+use Rattle.px_standing.proofs.Standing.{IsGrowing, image_stands}
 
 -- ---- what is read is plain
 
@@ -68,8 +71,8 @@ plain_log durable changes within before payload rest can e at =
 
 pub grows : (restart : Restart) (changes : List Change) (log : Log) (m : Machine) (s : State) → Stored restart changes log m s → IsGrowing restart changes log.durable m
 grows restart changes log m s stored = record {
-  held = stored.says.scan.held;
-  counted = stored.says.counted;
+  held = stored.finds.held;
+  counted = stored.finds.counted;
   reached = stored.reached;
   durable_commits = stored.durable ∙ stored.did.commits_are;
   commits_are = stored.did.commits_are;
@@ -79,7 +82,7 @@ grows restart changes log m s stored = record {
 pub stored_settled : (restart : Restart) (changes : List Change) (log : Log) (m : Machine) (s : State) → log.frames ≤ 2 ^ 48 → ReadsImages s → Stored restart changes log m s
     → IsSettledStore restart changes s
 stored_settled restart changes log m s below reads stored = record {
-  says = stored.says;
+  finds = stored.finds;
   settled = record {
     plain = record {
       each = reads;
@@ -100,4 +103,4 @@ stored_settled restart changes log m s below reads stored = record {
         let first = subst (λ (f : FileState). HasFirst log.durable changes f) (sym stored.log.file) (first_survive log.durable changes can stored.log.durable) in
         subst (λ (c : ℕ). StandsFor image c (rows_in changes)) stored.did.commits_are
         (subst (λ (rows : List Row). StandsFor image (commits m) rows) stored.did.rows_are
-        (image_stands restart changes log.durable m s.now s.content image stored.says.picked stored.rests (grows restart changes log m s stored) first plain))
+        (image_stands restart changes log.durable m s.now s.content image stored.finds.picked stored.rests (grows restart changes log m s stored) first plain))

@@ -10,19 +10,23 @@ use Rattle.px_site.proofs.Moments.{weaker_moments}
 use Rattle.px_scan.specs.Scan.{frames_of}
 use Rattle.px_restart.specs.Restart.{IsPicked}
 use Rattle.px_model.specs.declared.row.Row.{Row}
-use Rattle.px_xlog.specs.Images.{IsPlainRestart, IsPlainImage, ImagesStandFor, KeepsStanding, Settled}
+use Rattle.px_standing.specs.Images.{IsPlainRestart, IsPlainImage, ImagesStandFor, KeepsStanding}
+use Rattle.px_standing.specs.Settled.{Settled}
 use Rattle.px_xlog.specs.Log.{OnlyGrew, ReadsAsBefore}
-use Rattle.px_xlog.specs.Reading.{Files, the_log, StandsFor}
+use Rattle.px_standing.specs.Standing.{Files, StandsFor}
+use Rattle.px_xlog.specs.Contents.{the_log}
 
 -- only what the log is read as counts
 stands_alike : (image other : Files) (count : ℕ) (rows : List Row) → other (RestartFile 0) ≡ image (RestartFile 0) → other (RestartFile 1) ≡ image (RestartFile 1) → frames_of (image the_log) 0 ≡ frames_of (other the_log) 0 → StandsFor other count rows → StandsFor image count rows
 stands_alike image other count rows one two log stands = record {
   restart = stands.restart;
   changes = stands.changes;
-  says = record {
-    picked = subst (λ (b : List ℕ). IsPicked (image (RestartFile 0)) b stands.restart) two (subst (λ (a : List ℕ). IsPicked a (other (RestartFile 1)) stands.restart) one stands.says.picked);
-    scan = record { scanned = log ∙ stands.says.scan.scanned; held = stands.says.scan.held; reached = stands.says.scan.reached };
-    counted = stands.says.counted;
+  finds = record {
+    picked = subst (λ (b : List ℕ). IsPicked (image (RestartFile 0)) b stands.restart) two (subst (λ (a : List ℕ). IsPicked a (other (RestartFile 1)) stands.restart) one stands.finds.picked);
+    scanned = log ∙ stands.finds.scanned;
+    held = stands.finds.held;
+    reached = stands.finds.reached;
+    counted = stands.finds.counted;
   };
   commits_are = stands.commits_are;
   rows_are = stands.rows_are;
@@ -53,8 +57,8 @@ stands_moment s count rows m images on = record { images = record { each = λ im
         } in
         stands_alike image swap count rows refl refl read.3 (images.each swap is_plain)
 
-pub settled_grew : (s : State) (count : ℕ) (rows : List Row) → Settled s count rows → OnlyGrew (s.now.files the_log) (s.content the_log)
-settled_grew s count rows settled = record { behind = settled.grew; plain = settled.plain.log }
-
-pub standing_moments : {s0 s1 : State} (count : ℕ) (rows : List Row) → Settled s0 count rows → EachMoment (OnFile the_log s0.now (ReadsAsBefore (s0.now.files the_log))) s0 s1 → EachMoment (KeepsStanding count rows s0.now) s0 s1
-standing_moments {s0} {s1} count rows settled moments = weaker_moments (λ m on. stands_moment s0 count rows m settled.images on) moments
+-- while a log is opened that only grew since its last sync, a settled store stands for the same
+pub cutting_stands : {s0 s1 : State} (count : ℕ) (rows : List Row) → (OnlyGrew (s0.now.files the_log) (s0.content the_log) → EachMoment (OnFile the_log s0.now (ReadsAsBefore (s0.now.files the_log))) s0 s1)
+    → Settled s0 count rows → EachMoment (KeepsStanding count rows s0.now) s0 s1
+cutting_stands {s0} {s1} count rows moments settled =
+    weaker_moments (λ m on. stands_moment s0 count rows m settled.images on) (moments (record { behind = settled.grew; plain = settled.plain.log }))
