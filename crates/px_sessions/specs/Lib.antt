@@ -1,4 +1,5 @@
 pub mod Freed
 pub mod Indexed
+pub mod Kept
 pub mod Newest
 pub mod Writers

@@ -15,16 +15,16 @@ impl Sessions {
         ensures state { self.new ≡ state_after self.old session Call.Commit }
         ensures takes_no_memory { IsOk result }
     {
-        let Some(transaction) = self.plain.open_of(session) else {
+        let Some(transaction) = self.tracked.open_of(session) else {
             return Ok(Reply::NoTransaction);
         };
         let commit = Commit {
             number: transaction.number,
-            place: self.plain.ends(),
+            place: self.tracked.ends(),
         };
         self.newest.commit(transaction.writes.as_slice(), commit);
         self.locks.release(commit.number);
-        self.plain.commit(session)
+        self.tracked.commit(session)
     }
 
     /// Ends the session's transaction, and its writes are undone. It takes the time of its writes, and no memory.
@@ -34,10 +34,10 @@ impl Sessions {
         ensures state { self.new ≡ state_after self.old session Call.Rollback }
         ensures takes_no_memory { IsOk result }
     {
-        let Some(transaction) = self.plain.open_of(session) else {
+        let Some(transaction) = self.tracked.open_of(session) else {
             return Ok(Reply::NoTransaction);
         };
         self.locks.release(transaction.number);
-        self.plain.rollback(session)
+        self.tracked.rollback(session)
     }
 }

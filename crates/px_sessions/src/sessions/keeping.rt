@@ -9,8 +9,8 @@ ghost use Rattle.px_locks.specs.Holders.{unless_held_by};
 
 use super::Sessions;
 use crate::newest::Commit;
+use crate::rows::last_write;
 use px_model::{Open, Session, Write};
-use px_plain::last_write;
 
 impl Sessions {
     /// The number of the transaction that keeps this one from writing the key: another one that holds it,
@@ -26,10 +26,10 @@ impl Sessions {
         ensures { result ≡ conflict_of self.now session transaction.now (table, key.now) }
     {
         let _asked = transaction;
-        let Some(number) = self.plain.number(session) else {
+        let Some(number) = self.tracked.number(session) else {
             unreachable!()
         };
-        let Some(snap) = self.plain.snapshot(session) else {
+        let Some(snap) = self.tracked.snapshot(session) else {
             unreachable!()
         };
         let holder = other_than(self.locks.holder(table, key), number);

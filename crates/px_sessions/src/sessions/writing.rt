@@ -10,11 +10,12 @@ ghost use Rattle.px_sessions.specs.Newest.{entry_of, Grows};
 ghost use Rattle.px_sessions.specs.Freed.{holder_after};
 
 use super::Sessions;
+use crate::lists::fits_key;
 use crate::newest::Newest;
+use crate::rows::last_write;
 use px_calls::{Call, Reply};
 use px_locks::Locks;
 use px_model::{Bytes, MOST_VARIATIONS, MOST_WRITES, Open, Row, Session, Write};
-use px_plain::{fits_key, last_write};
 use std::alloc::{AllocError, Global};
 
 impl Sessions {
@@ -32,18 +33,18 @@ impl Sessions {
         ensures state { OnOk result (self.new ≡ state_after self.old session (Call.Insert table key.now tag body.now)) }
         ensures err { OnErr result (self.new ≡ self.old) }
     {
-        let Some(transaction) = self.plain.open_of(session) else {
+        let Some(transaction) = self.tracked.open_of(session) else {
             return Ok(Reply::NoTransaction);
         };
         let number = transaction.number;
-        let fits = self.plain.machine().fits_body(body);
+        let fits = self.tracked.machine().fits_body(body);
         if let Some(refusal) = self.write_refusal(session, transaction, table, key, fits) {
             return Ok(refusal);
         }
         if self.has_row(session, transaction, table as u8, key) {
             return Ok(Reply::Duplicate);
         }
-        if self.plain.machine().is_full(table as u8) {
+        if self.tracked.machine().is_full(table as u8) {
             return Ok(Reply::TableFull(MOST_VARIATIONS));
         }
         let row = new_row(self.newest.allocator(), table as u8, key, tag, body)?;
@@ -65,18 +66,18 @@ impl Sessions {
         ensures state { OnOk result (self.new ≡ state_after self.old session (Call.Update table key.now tag body.now)) }
         ensures err { OnErr result (self.new ≡ self.old) }
     {
-        let Some(transaction) = self.plain.open_of(session) else {
+        let Some(transaction) = self.tracked.open_of(session) else {
             return Ok(Reply::NoTransaction);
         };
         let number = transaction.number;
-        let fits = self.plain.machine().fits_body(body);
+        let fits = self.tracked.machine().fits_body(body);
         if let Some(refusal) = self.write_refusal(session, transaction, table, key, fits) {
             return Ok(refusal);
         }
         if !self.has_row(session, transaction, table as u8, key) {
             return Ok(Reply::Missing);
         }
-        if self.plain.machine().is_full(table as u8) {
+        if self.tracked.machine().is_full(table as u8) {
             return Ok(Reply::TableFull(MOST_VARIATIONS));
         }
         let row = new_row(self.newest.allocator(), table as u8, key, tag, body)?;
@@ -91,7 +92,7 @@ impl Sessions {
         ensures state { OnOk result (self.new ≡ state_after self.old session (Call.Delete table key.now)) }
         ensures err { OnErr result (self.new ≡ self.old) }
     {
-        let Some(transaction) = self.plain.open_of(session) else {
+        let Some(transaction) = self.tracked.open_of(session) else {
             return Ok(Reply::NoTransaction);
         };
         let number = transaction.number;
@@ -101,7 +102,7 @@ impl Sessions {
         if !self.has_row(session, transaction, table as u8, key) {
             return Ok(Reply::Missing);
         }
-        if self.plain.machine().is_full(table as u8) {
+        if self.tracked.machine().is_full(table as u8) {
             return Ok(Reply::TableFull(MOST_VARIATIONS));
         }
         let write = Write::Delete {
@@ -117,14 +118,14 @@ impl Sessions {
     pub fn unwrite(&mut self, session: Session)
         ensures takes_back { (before : Machine) (write : Write) → self.old ≡ with_write before session write → self.new ≡ before }
     {
-        let Some(transaction) = self.plain.open_of(session) else {
+        let Some(transaction) = self.tracked.open_of(session) else {
             return;
         };
         if transaction.writes.as_slice().is_empty() {
             return;
         }
         free_last(&mut self.locks, transaction.writes.as_slice());
-        self.plain.unwrite(session);
+        self.tracked.unwrite(session);
     }
 
     /// The refusals of a write that need no row, in their order.
@@ -144,7 +145,7 @@ impl Sessions {
         ensures few { IfNone result (length transaction.now.writes < MOST_WRITES) }
         ensures small { IfNone result (table < 256) }
     {
-        if !self.plain.machine().has_table(table) {
+        if !self.tracked.machine().has_table(table) {
             return Some(Reply::NoTable);
         }
         if !fits_key(key) {
@@ -176,9 +177,9 @@ impl Sessions {
         ensures ok { OnOk result (self.new ≡ with_write self.old session write) }
         ensures err { OnErr result (self.new ≡ self.old) }
     {
-        self.plain.write(session, write)?;
+        self.tracked.write(session, write)?;
         if let Err(error) = index(&mut self.newest, &mut self.locks, table, key, number) {
-            self.plain.unwrite(session);
+            self.tracked.unwrite(session);
             return Err(error);
         }
         Ok(())

@@ -6,6 +6,6 @@ use Rattle.px_sessions.proofs.sessions.Sessions.commit.Goals as goal
 pub invariant_of-self : goal.invariant_of-self
 invariant_of-self c =
     let at = sym c.open_of.ensures ∙ ap option_copied c.in-Some.is in
-    moved _ _ _ _ (c.commit-2.ensures.state ∙ committed-done c.self.inside.plain c.args.session c.in-Some.transaction.now at)
-    (indexed-committed c.self.inside.plain c.self.inside.locks _ c.self.inside.newest.tables.items _ c.args.session c.in-Some.transaction.now c.ends.result c.as_slice.result.now
+    moved _ _ _ _ (c.commit-2.ensures.state ∙ committed-done c.self.inside.tracked c.args.session c.in-Some.transaction.now at)
+    (indexed-committed c.self.inside.tracked c.self.inside.locks _ c.self.inside.newest.tables.items _ c.args.session c.in-Some.transaction.now c.ends.result c.as_slice.result.now
     c.self.invariant at c.release.ensures.released c.ends.ensures c.as_slice.ensures c.commit.ensures)

@@ -8,7 +8,7 @@ use Rattle.px_sessions.proofs.sessions.Sessions.conflict.Goals as goal
 
 pub returns : goal.returns
 returns c =
-    let ix = moved c.self.inside.plain c.args.self.now c.self.inside.locks c.self.inside.newest.tables.items (sym c.self.view_is) c.self.invariant in
+    let ix = moved c.self.inside.tracked c.args.self.now c.self.inside.locks c.self.inside.newest.tables.items (sym c.self.view_is) c.self.invariant in
     let e = conflict-is c.args.self.now c.self.inside.locks c.self.inside.newest.tables.items c.args.session c.args.transaction.now (c.args.table, c.args.key.now) ix c.requires in
     let number : c.in-Some.number ≡ c.args.transaction.now.number = same_Some c.in-Some.number c.args.transaction.now.number
     (sym c.in-Some.is ∙ c.number.ensures ∙ ap (λ (m : Machine). option_map (λ (x : Open). x.number) (open_of m c.args.session)) c.self.view_is

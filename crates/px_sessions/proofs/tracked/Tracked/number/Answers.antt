@@ -8,5 +8,5 @@ use Rattle.px_sessions.proofs.tracked.Tracked.number.Goals as goal
 pub returns : goal.returns
 returns c =
     c.number.ensures.is
-    ∙ number_mirrors c.self.inside.plain c.self.inside.xacts c.args.session c.self.invariant
+    ∙ number_mirrors c.self.inside.lists c.self.inside.xacts c.args.session c.self.invariant
     ∙ ap (λ (m : Machine). option_map (λ (x : Open). x.number) (open_of m c.args.session)) c.self.view_is

@@ -8,5 +8,5 @@ use Rattle.px_sessions.proofs.tracked.Tracked.snapshot.Goals as goal
 pub returns : goal.returns
 returns c =
     c.snapshot.ensures.is
-    ∙ snap_mirrors c.self.inside.plain c.self.inside.xacts c.args.session c.self.invariant
+    ∙ snap_mirrors c.self.inside.lists c.self.inside.xacts c.args.session c.self.invariant
     ∙ ap (λ (m : Machine). option_map (λ (x : Open). x.snap) (open_of m c.args.session)) c.self.view_is
