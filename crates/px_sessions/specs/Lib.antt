@@ -3,3 +3,4 @@ pub mod Indexed
 pub mod Kept
 pub mod Newest
 pub mod Writers
+pub mod Writing

@@ -4,7 +4,7 @@ ghost use Rattle.std.specs.Prelude.{◌≡◌, IfOk, OnOk, None, if◌then◌els
 ghost use Rattle.std.specs.Option.{option_copied};
 ghost use Rattle.px_calls.specs.Steps.{rows_of_table, rows_with_tag};
 ghost use Rattle.px_model.specs.Machine.{committed_writes};
-ghost use Rattle.px_model.specs.Rows.{key_cmp, same_key, key_of, key_written, row_at, with_row, without_key, after_write, after};
+ghost use Rattle.px_model.specs.Rows.{key_cmp, same_key, key_of, key_written, row_at, with_row, without_key, after_write, after, has_write_of};
 ghost use Rattle.px_model_laws.specs.Keys.{row_written};
 ghost use Rattle.px_machine_laws.specs.Seen.{last_of_key, last_committed_of};
 
@@ -130,6 +130,18 @@ pub(crate) fn keep_tag(rows: &mut Vec<Row>, table: u8, tag: u32)
     ensures { rows.new.items ≡ rows_with_tag table tag rows.old.items }
 {
     rows.retain(|row| row.table == table && row.tag == tag);
+}
+
+/// Tells whether one of the writes is of the key.
+pub(crate) fn has_write(writes: &[Write], table: u8, key: &[u8]) -> bool
+    ensures { result ≡ has_write_of (table, key.now) writes.now }
+{
+    for write in writes {
+        if is_of(write, table, key) {
+            return true;
+        }
+    }
+    false
 }
 
 /// The last of these writes that is of the key. It looks from the newest back.

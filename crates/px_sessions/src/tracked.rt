@@ -1,4 +1,4 @@
-ghost use Rattle.std.specs.Prelude.{◌≡◌, ◌<◌, ◌^◌, Some, true, is_some, length, option_map, IfOk, IsOk, OnOk, OnErr};
+ghost use Rattle.std.specs.Prelude.{◌≡◌, ◌<◌, ◌^◌, Some, true, is_some, length, IfOk, IsOk, OnOk, OnErr};
 ghost use Rattle.std.specs.Option.{option_copied};
 ghost use Rattle.px_model.specs.declared.limits.TheConstants.{MOST_WRITES};
 ghost use Rattle.px_model.specs.declared.machine.Open.{Open};
@@ -20,7 +20,7 @@ const NO_FRAMES: u64 = 0;
 
 /// The machine, and beside it its transactions without their rows. Contracts see the machine.
 ///
-/// Numbers, snapshots and how many transactions have ended come from the transactions; the machine's lists have the rows.
+/// How many transactions have ended comes from the transactions; the machine's lists have the rows.
 #[derive(Drop)]
 pub(crate) struct Tracked {
     lists: Lists,
@@ -68,20 +68,6 @@ impl Tracked {
         ensures { option_copied result ≡ open_of self.now session }
     {
         self.lists.open_of(session)
-    }
-
-    /// The number of the session's open transaction.
-    pub(crate) fn number(&self, session: Session) -> Option<u64>
-        ensures { result ≡ option_map (λ x. x.number) (open_of self.now session) }
-    {
-        self.xacts.number(session)
-    }
-
-    /// Its snapshot.
-    pub(crate) fn snapshot(&self, session: Session) -> Option<u64>
-        ensures { result ≡ option_map (λ x. x.snap) (open_of self.now session) }
-    {
-        self.xacts.snapshot(session)
     }
 
     /// How many transactions have ended with writes.

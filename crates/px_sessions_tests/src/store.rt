@@ -36,7 +36,7 @@ pub(crate) fn answer(
     session: Session,
     call: Call,
 ) -> Result<String, Fail> {
-    text_of(alloc, &store.step(session, &call)?)
+    text_of(alloc, &store.step(session, call)?)
 }
 
 /// The text of the rows after so many commits since the opening.

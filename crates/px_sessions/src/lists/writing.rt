@@ -1,7 +1,7 @@
 ghost use Rattle.std.specs.Prelude.{◌≡◌, ◌-◌, length, take, OnOk, OnErr};
 ghost use Rattle.px_model.specs.declared.write.Write.{Write};
 ghost use Rattle.px_model.specs.Machine.{Machine};
-ghost use Rattle.px_calls.specs.Steps.{with_write, fits_body, is_full};
+ghost use Rattle.px_calls.specs.Steps.{with_write, fits_body};
 ghost use Rattle.px_machine_laws.specs.Unwriting.{without_last};
 
 use super::Lists;
@@ -45,14 +45,6 @@ impl Lists {
         ensures { result ≡ fits_body self.now body.now }
     {
         body.len() as u64 <= self.short as u64
-    }
-
-    /// Tells whether the table has room for no more variations.
-    #[tactic(auto, unfolding(px_calls::specs::Steps::is_full))]
-    pub(crate) fn is_full(&self, _table: u8) -> bool
-        ensures { result ≡ is_full self.now _table }
-    {
-        false
     }
 }
 

@@ -2,18 +2,11 @@ use Rattle.std.proofs.Common.{◌<◌, List, length, sym, ap, ◌∙◌, arith}
 use Rattle.std.specs.Option.{option_copied}
 use Rattle.std.proofs.lemmas.Bool.{eqb-false}
 use Rattle.px_model.specs.declared.write.Write.{Write}
-use Rattle.px_model.specs.Rows.{has_write_of}
 use Rattle.px_locks.specs.Holders.{holder_of}
 use Rattle.px_sessions.specs.Freed.{holder_after}
 use Rattle.px_sessions.proofs.Indexed.{moved}
-use Rattle.px_sessions.proofs.Unwritten.{holders_there, indexed-unwritten, unwritten-is}
+use Rattle.px_sessions.proofs.Unwritten.{indexed-unwritten, unwritten-is}
 use Rattle.px_sessions.proofs.sessions.Sessions.unwrite.Goals as goal
-
-pub free_last-requires : goal.free_last-requires
-free_last-requires c = λ q has.
-    let at = sym c.open_of.ensures ∙ ap option_copied c.in-Some.is in
-    holders_there c.self.inside.tracked c.self.inside.locks c.self.inside.newest.tables.items c.args.session c.in-Some.transaction.now q c.self.invariant at
-    (ap (has_write_of q) (sym c.as_slice-2.ensures) ∙ has)
 
 pub invariant_of-self : goal.invariant_of-self
 invariant_of-self c =
