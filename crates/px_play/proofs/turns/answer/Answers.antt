@@ -9,12 +9,12 @@ returns-in-Err-clause-plays g c = λ tells restart changes stored.
     let state = g.W.Site.state in
     let old = c.args.core.now in
     let new = c.step.new.self in
-    subst (λ (status : Status). TurnsRight restart changes (c.args.session, c.args.call.now) old new (state old.site) (state new.site) (Err status)) (sym c.status_of.ensures)
+    subst (λ (status : Status). TurnsRight restart changes (c.args.session, c.args.call) old new (state old.site) (state new.site) (Err status)) (sym c.status_of.ensures)
     (refused_right c.in-Err.error tells c.requires c.in-Err.ensures.refused (c.step.ensures.moments tells) restart changes stored)
 
 pub returns-in-Err-clause-moments : goal.returns-in-Err-clause-moments
 returns-in-Err-clause-moments g c = λ tells.
-    refused_moments g.W.Site.state c.args.session c.args.call.now c.args.core.now c.step.new.self (c.step.ensures.moments tells)
+    refused_moments g.W.Site.state c.args.session c.args.call c.args.core.now c.step.new.self (c.step.ensures.moments tells)
 
 pub returns-clause-plays : goal.returns-clause-plays
 returns-clause-plays g c = λ tells restart changes stored.
