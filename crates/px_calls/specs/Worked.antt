@@ -249,3 +249,21 @@ last_number_replies = Began 1 ∷ LimitBegins ∷ []
 
 abbrev pub last_begin_replies : List Reply
 last_begin_replies = Began MOST_BEGINS ∷ LimitBegins ∷ []
+
+-- ---- an opening with rows: a body that is longer than a slot holds has a part of its own beside it
+
+abbrev pub zeros_at : (key : ℕ) → (count : ℕ) → Row
+zeros_at key count = record { table = 1; key = key ∷ []; tag = 0; body = replicate count 0 }
+
+-- seven commits led to the rows
+abbrev pub opened_store : Machine
+opened_store = fresh 1 64 (zeros_at 1 64 ∷ zeros_at 2 65 ∷ []) 7 0
+
+abbrev pub opened_counts : Counts
+opened_counts = record { commits = 7; opens = 0; unswept = 0; variations = 2; live = 17 }
+
+abbrev pub one_deletion : List Step
+one_deletion = by a Begin ∷ by a (Delete 1 key01) ∷ by a Commit ∷ []
+
+abbrev pub one_deletion_counts : Counts
+one_deletion_counts = record { commits = 8; opens = 0; unswept = 1; variations = 3; live = 17 }

@@ -1,9 +1,10 @@
 //! Worked examples: what the machine replies to short scripts, and what it counts then.
 //!
 //! Each function is a law about the definitions, which holds by computing them; none of them does anything.
-#![tactic(auto, unfolding(px_model::specs::Rows::key_cmp, px_model::specs::Rows::same_key, px_model::specs::Machine::fresh, px_model::specs::Machine::commits, px_model::specs::Machine::opens, px_model::specs::Machine::view, px_model::specs::Machine::horizon, px_model::specs::Chains::base_rows, px_model::specs::Chains::all_variations, px_model::specs::Chains::variations, px_model::specs::Chains::unswept, px_model::specs::Chains::live, crate::specs::Sweeps::sweep_reply, crate::specs::Sweeps::swept_state, crate::specs::Steps::begins_spent, crate::specs::Steps::has_table, crate::specs::Steps::fits_key, crate::specs::Steps::longest_body, crate::specs::Steps::fits_body, crate::specs::Steps::conflict_of, crate::specs::Steps::write_refusal, crate::specs::Steps::is_full, crate::specs::Steps::kept_row, crate::specs::Steps::rows_of_table, crate::specs::Steps::rows_with_tag, crate::specs::Steps::reply_of, crate::specs::Steps::state_when_done, crate::specs::Steps::state_after,))]
+#![tactic(auto, unfolding(px_model::specs::Rows::key_cmp, px_model::specs::Rows::same_key, px_model::specs::Machine::fresh, px_model::specs::Machine::commits, px_model::specs::Machine::opens, px_model::specs::Machine::view, px_model::specs::Machine::horizon, px_model::specs::Machine::published, px_model::specs::Chains::base_rows, px_model::specs::Chains::all_variations, px_model::specs::Chains::variations, px_model::specs::Chains::unswept, px_model::specs::Chains::live, crate::specs::Sweeps::sweep_reply, crate::specs::Sweeps::swept_state, crate::specs::Steps::begins_spent, crate::specs::Steps::has_table, crate::specs::Steps::fits_key, crate::specs::Steps::longest_body, crate::specs::Steps::fits_body, crate::specs::Steps::conflict_of, crate::specs::Steps::write_refusal, crate::specs::Steps::is_full, crate::specs::Steps::kept_row, crate::specs::Steps::rows_of_table, crate::specs::Steps::rows_with_tag, crate::specs::Steps::reply_of, crate::specs::Steps::state_when_done, crate::specs::Steps::state_after,))]
 
-ghost use Rattle.std.specs.Prelude.{◌≡◌};
+ghost use Rattle.std.specs.Prelude.{◌≡◌, ◌∷◌, []};
+ghost use Rattle.px_model.specs.Machine.{horizon, published};
 ghost use Rattle.px_calls.specs.Histories.{machine_after, replies_to};
 ghost use Rattle.px_calls.specs.Worked.{
   alone,
@@ -25,7 +26,11 @@ ghost use Rattle.px_calls.specs.Worked.{
   later_commit_replies,
   new_store,
   one_begin_left,
+  one_deletion,
+  one_deletion_counts,
   one_number_left,
+  opened_counts,
+  opened_store,
   refusals,
   refusals_replies,
   overtaken_twice,
@@ -44,6 +49,7 @@ ghost use Rattle.px_calls.specs.Worked.{
   waiting_update,
   waiting_update_counts,
   waiting_update_replies,
+  zeros_at,
 };
 
 pub fn one_session_reads_what_it_wrote()
@@ -103,4 +109,12 @@ pub fn begins_end_with_the_stored_numbers()
 
 pub fn begins_end_with_their_count()
     ensures { replies_to one_begin_left two_begins ≡ last_begin_replies }
+{}
+
+pub fn an_opened_store_counts_its_rows()
+    ensures opened { counts_of opened_store ≡ opened_counts }
+    ensures deleted { counts_of (machine_after opened_store one_deletion) ≡ one_deletion_counts }
+    ensures horizon { horizon (machine_after opened_store one_deletion) ≡ 1 }
+    ensures first_rows { published (machine_after opened_store one_deletion) 0 ≡ zeros_at 1 64 ∷ zeros_at 2 65 ∷ [] }
+    ensures last_rows { published (machine_after opened_store one_deletion) 1 ≡ zeros_at 2 65 ∷ [] }
 {}

@@ -6,7 +6,7 @@ use Rattle.std.specs.declared.cmp.Ordering.TheVariants.{Less, Equal, Greater}
 use Rattle.std.specs.Cmp.{IsTotalOrder, nat_cmp_total}
 use Rattle.std.specs.Cmp.Lexicographic.{slice_cmp, nat_list_cmp_total}
 use Rattle.std.proofs.lemmas.Cmp.{on_total, then_total}
-use Rattle.std.proofs.lemmas.Bool.{cases_order, true≢false, false≢true}
+use Rattle.std.proofs.lemmas.Bool.{cases_order, false≢true}
 use Rattle.std.proofs.lemmas.Bool.Decides.{nat_tests}
 use Rattle.std.proofs.lemmas.Map.Lookups.{exact_pairs, exact_unsigned, exact_bytes}
 use Rattle.px_model.specs.Rows.{Key, key_cmp, same_key}
@@ -54,10 +54,6 @@ same_number n = grind (arith, nat_tests)
 
 pub is_number : (m n : ℕ) → (m == n) ≡ true → m ≡ n
 is_number m n h = grind (arith, nat_tests, h)
-
-pub none_is : {A : Type 0} (answer : Option A) → is_some answer ≡ false → answer ≡ None
-none_is None h = refl
-none_is (Some x) h = absurd (true≢false h)
 
 pub some_is : (answer : Option ℕ) (number : ℕ) → is_some answer ≡ true → (answer ≡ None) ⊎ (answer ≡ Some number) → answer ≡ Some number
 some_is answer number h (inl none) = absurd (false≢true (sym (ap is_some none) ∙ h))

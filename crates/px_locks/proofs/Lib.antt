@@ -1,4 +1,3 @@
 pub mod Holders
 pub mod Keys
-pub mod Listed
 pub mod Maps

@@ -12,10 +12,10 @@ use Rattle.std.proofs.lemmas.Bool.Decides.{nat_tests}
 use Rattle.std.proofs.lemmas.Option.{slice_get-get_or, slice_get_past}
 use Rattle.px_model.specs.Rows.{Key, key_cmp, same_key}
 use Rattle.px_locks.specs.declared.tables.Table.{Table}
-use Rattle.px_locks.specs.Holders.{Holders, holder_of, unless_held_by}
+use Rattle.px_locks.specs.Holders.{Holders, holder_of}
 use Rattle.px_locks.specs.Tables.{entries_of, entries_from, holder_at, holder_in, IsSame}
-use Rattle.px_locks.proofs.Keys.{key_total, same_parts, same_bytes, by_key, same_number, same_key-is}
-use Rattle.px_locks.proofs.Holders.{holders_are, unless_other, unless_own}
+use Rattle.px_locks.proofs.Keys.{key_total, same_parts, same_bytes, by_key, same_number}
+use Rattle.px_locks.proofs.Holders.{holders_are}
 
 -- ---- the map that the tables make
 
@@ -153,30 +153,3 @@ one_more tables empty none q = pushed tables q.0
     pushed [] (suc j) = refl
     pushed (t ∷ ts) zero = refl
     pushed (t ∷ ts) (suc j) = pushed ts j
-
--- ---- a key goes where its holder is the number
-
-pub own_freed : (n : ℕ) (key : Key) (before after : List Table)
-    → ((q : Key) → holder_in q after ≡ cond (same_key q key) None (holder_in q before)) → holder_in key before ≡ Some n
-    → (q : Key) → holder_in q after ≡ cond (same_key q key) (unless_held_by n (holder_in q before)) (holder_in q before)
-own_freed n key before after freed own q = freed q
-    ∙ (elim (same_key q key) as (λ b. same_key q key ≡ b
-    → cond b None (holder_in q before) ≡ cond b (unless_held_by n (holder_in q before)) (holder_in q before)) [
-      | true ↦ λ e. sym (unless_own n (holder_in q before) (ap (λ k. holder_in k before) (same_key-is q key e) ∙ own))
-      | false ↦ λ e. refl
-    ]) refl
-
-pub other_stays : (n : ℕ) (key : Key) (tables : List Table) → holder_in key tables ≢ Some n
-    → (q : Key) → holder_in q tables ≡ cond (same_key q key) (unless_held_by n (holder_in q tables)) (holder_in q tables)
-other_stays n key tables other q =
-    (elim (same_key q key) as (λ b. same_key q key ≡ b
-    → holder_in q tables ≡ cond b (unless_held_by n (holder_in q tables)) (holder_in q tables)) [
-      | true ↦ λ e. sym (unless_other n (holder_in q tables) (λ h. other (ap (λ k. holder_in k tables) (sym (same_key-is q key e)) ∙ h)))
-      | false ↦ λ e. refl
-    ]) refl
-
--- a key that nobody holds, where nothing changed
-pub still_free : (key : Key) (before after : List Table) → IsSame before after → holder_in key before ≡ None
-    → (q : Key) → holder_in q after ≡ cond (same_key q key) None (holder_in q before)
-still_free key before after same none =
-    by_key key (λ q. holder_in q after) None (λ q. holder_in q before) (same key ∙ none) (λ q _. same q)

@@ -3,14 +3,12 @@
 //!
 //! - `locks`: `Locks`, the keys that are held, each with the number of its transaction.
 //! - `tables`: the holders of each table's keys, a map for a table.
-//! - `taken`: the keys that each transaction took, by which they are found when it ends.
 //!
 //! `specs/Holders` has what callers see, a finite map from keys to their holders; `specs/Tables` how
-//! the tables' maps make it; `specs/Taken` what is listed for a transaction.
+//! the tables' maps make it.
 #![tactic(auto)]
 
 mod locks;
 mod tables;
-mod taken;
 
 pub use locks::Locks;

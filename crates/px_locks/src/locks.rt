@@ -1,23 +1,20 @@
-ghost use Rattle.std.specs.Prelude.{◌≡◌, ◌⊎◌, Some, None, if◌then◌else◌, IfOk, OnOk, OnErr, IsSome};
+ghost use Rattle.std.specs.Prelude.{◌≡◌, ◌⊎◌, Some, None, if◌then◌else◌, IfOk, OnOk, OnErr};
 ghost use Rattle.px_model.specs.Rows.{Key, same_key};
 ghost use Rattle.px_locks.specs.Holders.{holder_of, unless_held_by};
 
+use crate::tables;
 use crate::tables::Table;
-use crate::taken::Taken;
-use crate::{tables, taken};
-use px_model::{Bytes, KeyOf};
 use std::alloc::{AllocError, Global};
 use std::marker::Model;
 
 /// The keys that open transactions hold. Contracts see a finite map from each key that is held to the
 /// number of the transaction that holds it.
 ///
-/// Each table has a map by the key's bytes, so a holder is found by one look-up. Beside them the keys
-/// that each transaction took are listed, so that its end takes the time of its own keys alone.
+/// Each table has a map by the key's bytes, so a holder is found by one look-up. Which keys a transaction took isn't
+/// kept: it is for the transaction to know what it wrote, and each key of it is released by itself.
 #[derive(Debug, Drop)]
 pub struct Locks {
     tables: Vec<Table>,
-    taken: Vec<Taken>,
 }
 
 impl Model for Locks {
@@ -27,15 +24,12 @@ impl Model for Locks {
     ghost use Rattle.px_model.specs.Rows.{key_cmp};
     ghost use Rattle.px_locks.specs.Holders.{holders_code};
     ghost use Rattle.px_locks.specs.Tables.{entries_from};
-    ghost use Rattle.px_locks.specs.Taken.{EachListed};
 
     ghost Value = { map.FinMap key_cmp ℕ };
 
     ghost coded = { holders_code };
 
     ghost view = { λ a. map.from_entries (entries_from 0 a.tables.items) };
-
-    ghost invariant = { λ a. EachListed a.tables.items a.taken.items };
 }
 
 impl Locks {
@@ -45,7 +39,6 @@ impl Locks {
     {
         Ok(Locks {
             tables: Vec::new(alloc),
-            taken: Vec::new(alloc),
         })
     }
 
@@ -68,42 +61,29 @@ impl Locks {
         if self.holder(table, key).is_some() {
             return Ok(());
         }
-        let alloc = *self.tables.allocator();
-        let stored = Vec::from_slice(alloc, key)?;
-        let listed = KeyOf {
-            table,
-            key: Bytes::from_slice(alloc, key)?,
-        };
-        // It is listed first, since a list is taken back without memory.
-        taken::add(&mut self.taken, number, listed)?;
-        match tables::insert(&mut self.tables, table, stored, number) {
-            Ok(()) => Ok(()),
-            Err(refused) => {
-                taken::drop_last(&mut self.taken, number, table, key);
-                Err(refused)
-            }
-        }
+        let stored = Vec::from_slice(*self.tables.allocator(), key)?;
+        tables::insert(&mut self.tables, table, stored, number)?;
+        Ok(())
     }
 
-    /// Takes the key from the transaction that holds it.
+    /// Takes the key from the transaction that holds it, if there is one.
     pub fn free(&mut self, table: u8, key: &[u8])
-        requires { IsSome (holder_of (table, key.now) self.old) }
-        ensures freed { (q : Key) → holder_of q self.new
+        ensures { (q : Key) → holder_of q self.new
             ≡ (if same_key q (table, key.now) then None else holder_of q self.old) }
     {
-        let Some(number) = self.holder(table, key) else {
-            unreachable!()
-        };
         tables::remove(&mut self.tables, table, key);
-        taken::drop_last(&mut self.taken, number, table, key);
     }
 
-    /// Takes all its keys from the transaction of that number.
-    pub fn release(&mut self, number: u64)
-        ensures released { (q : Key) → holder_of q self.new ≡ unless_held_by number (holder_of q self.old) }
+    /// Takes the key from the transaction of that number, where it holds it.
+    pub fn release(&mut self, table: u8, key: &[u8], number: u64)
+        ensures { (q : Key) → holder_of q self.new
+            ≡ (if same_key q (table, key.now) then unless_held_by number (holder_of q self.old) else holder_of q self.old) }
     {
-        if let Some(keys) = taken::take_out(&mut self.taken, number) {
-            tables::remove_all(&mut self.tables, &keys, number);
+        let Some(holder) = self.holder(table, key) else {
+            return;
+        };
+        if holder == number {
+            self.free(table, key);
         }
     }
 }

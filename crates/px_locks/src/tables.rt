@@ -1,10 +1,7 @@
 ghost use Rattle.std.specs.Prelude.{◌≡◌, ◌<◌, Some, None, if◌then◌else◌, length, OnOk, OnErr};
 ghost use Rattle.px_model.specs.Rows.{Key, same_key};
-ghost use Rattle.px_locks.specs.Holders.{unless_held_by};
 ghost use Rattle.px_locks.specs.Tables.{holder_in, IsSame};
-ghost use Rattle.px_locks.specs.Taken.{is_among};
 
-use px_model::KeyOf;
 use std::alloc::AllocError;
 use std::collections::BTreeMap;
 
@@ -73,28 +70,5 @@ pub fn remove(tables: &mut Vec<Table>, table: u8, key: &[u8])
     let place = usize::from(table);
     if place < tables.len() {
         tables[place].holders.remove(key);
-    }
-}
-
-/// Takes those of the keys from that number that it holds.
-pub fn remove_all(tables: &mut Vec<Table>, keys: &[KeyOf], number: u64)
-    ensures { (q : Key) → holder_in q tables.new.items
-        ≡ (if is_among q keys.now then unless_held_by number (holder_in q tables.old.items) else holder_in q tables.old.items) }
-{
-    for key in keys {
-        remove_held(tables, key, number);
-    }
-}
-
-fn remove_held(tables: &mut Vec<Table>, key: &KeyOf, number: u64)
-    ensures { (q : Key) → holder_in q tables.new.items
-        ≡ (if same_key q (key.now.table, key.now.key) then unless_held_by number (holder_in q tables.old.items) else holder_in q tables.old.items) }
-{
-    let bytes = key.key.as_slice();
-    let Some(found) = holder(tables, key.table, bytes) else {
-        return;
-    };
-    if found == number {
-        remove(tables, key.table, bytes);
     }
 }

@@ -44,14 +44,14 @@ pub(crate) fn turn<W: Site>(
         → KeepsWithin c core.old (W.state core.old.site) (W.state core.new.site) }
 {
     let (session, call) = command(alloc, line, number)?;
-    answer(core, session, &call, text)
+    answer(core, session, call, text)
 }
 
 /// Makes a call and tells its reply.
 fn answer<W: Site>(
     core: &mut Core<W>,
     session: Session,
-    call: &Call,
+    call: Call,
     text: &mut Vec<u8>,
 ) -> Result<(), Status>
     requires { core.old.error ≡ None }
@@ -60,8 +60,8 @@ fn answer<W: Site>(
     ensures whole { OnOk result (core.new.error ≡ None) }
     ensures none_fell { NoneFell (W.counts core.old.site) (W.counts core.new.site) }
     ensures plays { W.tells → (restart : Restart) (changes : List Change) → Stored restart changes core.old.log core.old.machine (W.state core.old.site)
-        → TurnsRight restart changes (session, call.now) core.old core.new (W.state core.old.site) (W.state core.new.site) result }
-    ensures moments { W.tells → KeepsWithin (session, call.now) core.old (W.state core.old.site) (W.state core.new.site) }
+        → TurnsRight restart changes (session, call) core.old core.new (W.state core.old.site) (W.state core.new.site) result }
+    ensures moments { W.tells → KeepsWithin (session, call) core.old (W.state core.old.site) (W.state core.new.site) }
 {
     let reply = core.step(session, call)?;
     tell_reply(core, &reply, text)

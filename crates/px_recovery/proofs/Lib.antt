@@ -1,6 +1,7 @@
 pub mod Committing
 pub mod Contents
 pub mod Deciding
+pub mod Errors
 pub mod Found
 pub mod Fronts
 pub mod NewMoments

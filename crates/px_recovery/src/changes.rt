@@ -9,8 +9,8 @@ ghost use Rattle.px_told.specs.Changes.{stored_number};
 ghost use Rattle.px_recovery.specs.Beginnings.{noted};
 
 use px_model::{Row, RowList};
-use px_plain::apply_write;
 use px_restart::Restart;
+use px_sessions::apply_write;
 use px_told::Change;
 use std::alloc::{AllocError, Global};
 use std::collections::HashMap;

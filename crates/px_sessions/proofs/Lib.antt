@@ -1,7 +1,12 @@
 pub mod Commits
 pub mod Indexed
+pub mod Kept
+pub mod Publishing
+pub mod Room
+pub mod RowSteps
 pub mod Tables
 pub mod Tracking
+pub mod Unbeginning
 pub mod Unwritten
 pub mod Writers
 pub mod Writing

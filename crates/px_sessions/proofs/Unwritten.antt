@@ -1,8 +1,8 @@
 -- A new store, growths that were refused, and a write that is taken back.
-use Rattle.std.proofs.Common.{◌≡◌, ℕ, ◌+◌, ◌-◌, ◌<◌, Bool, true, false, cond, not, ◌&&◌, ◌||◌, ◌==◌, ◌⊎◌, inl, inr, List, [], ◌∷◌, ◌++◌, length, get_or, set, take, drop, Option, Some, None, is_some, option_map, refl, sym, ap, subst, ◌∙◌, arith}
+use Rattle.std.proofs.Common.{◌≡◌, ◌≢◌, ℕ, ◌+◌, ◌-◌, ◌<◌, Bool, true, false, cond, not, ◌&&◌, ◌||◌, ◌==◌, ◌⊎◌, inl, inr, List, [], ◌∷◌, ◌++◌, length, get_or, set, take, drop, Option, Some, None, is_some, option_map, refl, sym, ap, subst, ◌∙◌, arith}
 use Rattle.std.specs.Prelude.{slice_get}
 use Rattle.std.proofs.lemmas.Bool.{false≢true, eqb-true}
-use Rattle.std.proofs.lemmas.Option.{none-some, get_or_from_slice_get}
+use Rattle.std.proofs.lemmas.Option.{none-some, same_Some, get_or_from_slice_get}
 use Rattle.std.proofs.lemmas.List.{set-get_or, set-set, take-append-drop, take_more}
 use Rattle.std.proofs.lemmas.List.Folds.{list_any-append}
 use Rattle.px_model.specs.declared.machine.Open.{Open}
@@ -18,7 +18,7 @@ use Rattle.px_machine_laws.specs.Writers.{last_write_of}
 use Rattle.px_machine_laws.proofs.Begun.{begun-none}
 use Rattle.px_machine_laws.proofs.Overlap.{same_key-is, option_or_none}
 use Rattle.px_machine_laws.proofs.Writers.{written_last}
-use Rattle.px_locks.proofs.Holders.{same_key-itself}
+use Rattle.px_locks.proofs.Holders.{unless_other}
 use Rattle.px_locks.specs.Holders.{Holders, holder_of, unless_held_by}
 use Rattle.px_sessions.specs.declared.newest.Table.{Table}
 use Rattle.px_sessions.specs.Freed.{holder_after}
@@ -26,7 +26,7 @@ use Rattle.px_sessions.specs.Newest.{entry_of, last_in, live_in, Grows}
 use Rattle.px_sessions.specs.Writers.{number_since}
 use Rattle.px_sessions.specs.Indexed.{WriteApart, Indexed}
 use Rattle.px_sessions.proofs.Commits.{has-last}
-use Rattle.px_sessions.proofs.Writers.{is-writer, apart-same, writer-same, writer-freed, now_there}
+use Rattle.px_sessions.proofs.Writers.{writer-is, is-writer, apart-same, writer-same, writer-freed, now_there}
 use Rattle.px_sessions.proofs.Indexed.{conflict-is, one_place, grows-same}
 
 -- ---- a new store
@@ -188,19 +188,19 @@ never_both : (b : Bool) → (b && not b) ≡ false
 never_both true = refl
 never_both false = refl
 
-pub freed-one : (key : Key) (writes : List Write) (old new : Holders) → last_of_key key writes ≡ None
+pub freed-one : (key : Key) (writes : List Write) (old new : Holders) → has_write_of key writes ≡ false
     → ((q : Key) → holder_of q new ≡ cond (same_key q key) None (holder_of q old))
     → (q : Key) → holder_of q new ≡ cond (same_key q key && not (has_write_of key writes)) None (holder_of q old)
 freed-one key writes old new none freed q =
     freed q
     ∙ ap (λ b. cond b None (holder_of q old)) (sym (and_true (same_key q key)))
-    ∙ ap (λ b. cond (same_key q key && not b) None (holder_of q old)) (sym (has-last key writes ∙ ap is_some none))
+    ∙ ap (λ b. cond (same_key q key && not b) None (holder_of q old)) (sym none)
 
-pub kept-one : (key : Key) (writes : List Write) (old : Holders) (w : Write) → last_of_key key writes ≡ Some w
+pub kept-one : (key : Key) (writes : List Write) (old : Holders) → has_write_of key writes ≡ true
     → (q : Key) → holder_of q old ≡ cond (same_key q key && not (has_write_of key writes)) None (holder_of q old)
-kept-one key writes old w some q =
+kept-one key writes old some q =
     ap (λ b. cond b None (holder_of q old)) (sym (and_false (same_key q key)))
-    ∙ ap (λ b. cond (same_key q key && not b) None (holder_of q old)) (sym (has-last key writes ∙ ap is_some some))
+    ∙ ap (λ b. cond (same_key q key && not b) None (holder_of q old)) (sym some)
 
 last_at : (writes : List Write) (w : Write) → slice_get writes (length writes - 1) ≡ Some w → take (length writes - 1) writes ++ w ∷ [] ≡ writes
 last_at [] w at = absurd (none-some w at)
@@ -218,11 +218,6 @@ has_split q writes w at =
     ∙ list_any-append (λ v. same_key q (key_written v)) (take (length writes - 1) writes) (w ∷ [])
     ∙ or_same (has_write_of q (take (length writes - 1) writes)) (same_key q (key_written w))
 
-pub has-last_write : (writes : List Write) (w : Write) → slice_get writes (length writes - 1) ≡ Some w → has_write_of (key_written w) writes ≡ true
-has-last_write writes w at =
-    has_split (key_written w) writes w at
-    ∙ ap (λ b. cond b true (has_write_of (key_written w) (take (length writes - 1) writes))) (same_key-itself (key_written w))
-
 pub after-last : (q : Key) (writes : List Write) (w : Write) (was : Option ℕ) → slice_get writes (length writes - 1) ≡ Some w
     → cond (same_key q (key_written w) && not (has_write_of (key_written w) (take (length writes - 1) writes))) None was ≡ holder_after q writes was
 after-last q writes w was at =
@@ -237,8 +232,8 @@ after-last q writes w was at =
           ∙ ap (λ b. cond (b && not (has_write_of q fewer)) None was) (sym (has_split q writes w at ∙ ap (λ b. cond b true (has_write_of q fewer)) e))
     ]) refl
 
--- the caller of a write is the one transaction of the session
-pub holders_there : (m : Machine) (h : Holders) (n : List Table) (session : ℕ) (x : Open) (q : Key) → Indexed m h n → open_of m session ≡ Some x
+-- a key that an open transaction wrote has a holder
+holders_there : (m : Machine) (h : Holders) (n : List Table) (session : ℕ) (x : Open) (q : Key) → Indexed m h n → open_of m session ≡ Some x
     → has_write_of q x.writes ≡ true → is_some (holder_of q h) ≡ true
 holders_there m h n session x q ix at has =
     ap is_some (ix.held q ∙ is-writer q m.active x.number ix.apart (record { place = session; xact = x; at = at; has = has; is = refl }))
@@ -250,3 +245,31 @@ unheld m h n session x key ix at none = (elim (last_of_key key x.writes) as (λ 
   | None ↦ λ _. refl
   | Some w ↦ λ e. absurd (false≢true (ap is_some (sym none) ∙ holders_there m h n session x key ix at (has-last key x.writes ∙ ap is_some e)))
 ]) refl
+
+pub none-is : {A : Type 0} (o : Option A) → is_some o ≡ false → o ≡ None
+none-is None h = refl
+none-is (Some x) h = absurd (false≢true (sym h))
+
+-- ---- the keys that a transaction held
+
+-- a transaction holds only keys that it wrote
+not_holder : (m : Machine) (h : Holders) (n : List Table) (session : ℕ) (x : Open) (q : Key) → Indexed m h n → open_of m session ≡ Some x
+    → has_write_of q x.writes ≡ false → holder_of q h ≢ Some x.number
+not_holder m h n session x q ix at none own =
+    let w = writer-is q m.active x.number (sym (ix.held q) ∙ own) in
+    let here : w.place ≡ session = ix.begun.apart w.place session w.xact x w.at at w.is in
+    let same : w.xact ≡ x = same_Some w.xact x (sym w.at ∙ ap (λ p. get_or m.active p None) here ∙ at) in
+    false≢true (sym none ∙ ap (λ (o : Open). has_write_of q o.writes) (sym same) ∙ w.has)
+
+-- so it holds none, once the keys of its writes are free of it
+pub all-released : (m : Machine) (h k : Holders) (n : List Table) (session : ℕ) (x : Open) (writes : List Write) → Indexed m h n → open_of m session ≡ Some x → writes ≡ x.writes
+    → ((q : Key) → holder_of q k ≡ cond (has_write_of q writes) (unless_held_by x.number (holder_of q h)) (holder_of q h))
+    → (q : Key) → holder_of q k ≡ unless_held_by x.number (holder_of q h)
+all-released m h k n session x writes ix at same released q =
+    released q
+    ∙ ap (λ ws. cond (has_write_of q ws) (unless_held_by x.number (holder_of q h)) (holder_of q h)) same
+    ∙ (elim (has_write_of q x.writes) as (λ b. has_write_of q x.writes ≡ b
+    → cond b (unless_held_by x.number (holder_of q h)) (holder_of q h) ≡ unless_held_by x.number (holder_of q h)) [
+      | true ↦ λ _. refl
+      | false ↦ λ none. sym (unless_other x.number (holder_of q h) (not_holder m h n session x q ix at none))
+    ]) refl

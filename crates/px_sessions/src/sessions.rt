@@ -26,7 +26,7 @@ use std::marker::Model;
 /// writes of its own transaction.
 #[derive(Drop)]
 pub struct Sessions {
-    plain: Tracked,
+    tracked: Tracked,
     locks: Locks,
     newest: Newest,
 }
@@ -37,9 +37,9 @@ impl Model for Sessions {
 
     ghost Value = { Machine };
 
-    ghost view = { λ a. a.plain };
+    ghost view = { λ a. a.tracked };
 
-    ghost invariant = { λ a. Indexed a.plain a.locks a.newest.tables.items };
+    ghost invariant = { λ a. Indexed a.tracked a.locks a.newest.tables.items };
 }
 
 impl Sessions {
@@ -59,9 +59,9 @@ impl Sessions {
     {
         let newest = Newest::of_rows(alloc, opening.as_slice())?;
         let locks = Locks::new(alloc)?;
-        let plain = Tracked::new(alloc, tables, short, opening, before, base)?;
+        let tracked = Tracked::new(alloc, tables, short, opening, before, base)?;
         Ok(Sessions {
-            plain,
+            tracked,
             locks,
             newest,
         })
@@ -72,27 +72,27 @@ impl Sessions {
         ensures is { result ≡ commits self.now }
         ensures below { result < 2 ^ 64 - 1 }
     {
-        self.plain.machine().commits()
+        self.tracked.machine().commits()
     }
 
     /// The rows after the first `count` commits since the opening, or after all where there are fewer.
     pub fn published(&self, count: u64) -> Result<RowList, AllocError>
         ensures { IfOk result (λ rows. rows ≡ published self.now count) }
     {
-        self.plain.machine().published(count)
+        self.tracked.machine().published(count)
     }
 
     /// The stored number of the session's open transaction, where it has writes. It is below 2^62.
     pub fn stored_writer(&self, session: Session) -> Option<u64>
         ensures { result ≡ writer_of self.now session }
     {
-        self.plain.machine().stored_writer(session)
+        self.tracked.machine().stored_writer(session)
     }
 
     /// The write that the session's open transaction made last.
     pub fn last_write(&self, session: Session) -> Option<&Write>
         ensures { option_copied result ≡ last_write_of self.now session }
     {
-        self.plain.machine().last_write(session)
+        self.tracked.machine().last_write(session)
     }
 }

@@ -1,4 +1,4 @@
-ghost use Rattle.std.specs.Prelude.{◌≡◌, ◌<◌, ◌^◌, Some, true, is_some, length, option_map, IfOk, IsOk, OnOk, OnErr};
+ghost use Rattle.std.specs.Prelude.{◌≡◌, ◌<◌, ◌^◌, Some, true, is_some, length, IfOk, IsOk, OnOk, OnErr};
 ghost use Rattle.std.specs.Option.{option_copied};
 ghost use Rattle.px_model.specs.declared.limits.TheConstants.{MOST_WRITES};
 ghost use Rattle.px_model.specs.declared.machine.Open.{Open};
@@ -8,9 +8,9 @@ ghost use Rattle.px_model.specs.Rows.{key_written};
 ghost use Rattle.px_calls.specs.Steps.{open_of, reply_of, state_after, with_write};
 ghost use Rattle.px_xacts_laws.specs.Mirrors.{key_at};
 
+use crate::lists::Lists;
 use px_calls::{Call, Reply};
 use px_model::{Open, RowList, Session, Write};
-use px_plain::Plain;
 use px_xacts::{WriteAt, Xacts};
 use std::alloc::{AllocError, Global};
 use std::marker::Model;
@@ -20,10 +20,10 @@ const NO_FRAMES: u64 = 0;
 
 /// The machine, and beside it its transactions without their rows. Contracts see the machine.
 ///
-/// Numbers, snapshots and how many transactions have ended come from the transactions; the machine's lists have the rows.
+/// How many transactions have ended comes from the transactions; the machine's lists have the rows.
 #[derive(Drop)]
 pub(crate) struct Tracked {
-    plain: Plain,
+    lists: Lists,
     xacts: Xacts,
 }
 
@@ -33,9 +33,9 @@ impl Model for Tracked {
 
     ghost Value = { Machine };
 
-    ghost view = { λ a. a.plain };
+    ghost view = { λ a. a.lists };
 
-    ghost invariant = { λ a. Mirrors a.plain a.xacts };
+    ghost invariant = { λ a. Mirrors a.lists a.xacts };
 }
 
 impl Tracked {
@@ -52,36 +52,22 @@ impl Tracked {
         ensures { IfOk result (λ m. m ≡ fresh tables short opening before base) }
     {
         let xacts = Xacts::new(alloc, base)?;
-        let plain = Plain::new(alloc, tables, short, opening, before, base)?;
-        Ok(Tracked { plain, xacts })
+        let lists = Lists::new(alloc, tables, short, opening, before, base)?;
+        Ok(Tracked { lists, xacts })
     }
 
     /// The machine, to be read.
-    pub(crate) fn machine(&self) -> &Plain
+    pub(crate) fn machine(&self) -> &Lists
         ensures { result.now ≡ self.now }
     {
-        &self.plain
+        &self.lists
     }
 
     /// The session's open transaction.
     pub(crate) fn open_of(&self, session: Session) -> Option<&Open>
         ensures { option_copied result ≡ open_of self.now session }
     {
-        self.plain.open_of(session)
-    }
-
-    /// The number of the session's open transaction.
-    pub(crate) fn number(&self, session: Session) -> Option<u64>
-        ensures { result ≡ option_map (λ x. x.number) (open_of self.now session) }
-    {
-        self.xacts.number(session)
-    }
-
-    /// Its snapshot.
-    pub(crate) fn snapshot(&self, session: Session) -> Option<u64>
-        ensures { result ≡ option_map (λ x. x.snap) (open_of self.now session) }
-    {
-        self.xacts.snapshot(session)
+        self.lists.open_of(session)
     }
 
     /// How many transactions have ended with writes.
@@ -96,14 +82,14 @@ impl Tracked {
         ensures state { OnOk result (self.new ≡ state_after self.old session Call.Begin) }
         ensures err { OnErr result (self.new ≡ self.old) }
     {
-        let reply = self.plain.begin(session)?;
+        let reply = self.lists.begin(session)?;
         if reply.is_refusal() {
             return Ok(reply);
         }
         match self.xacts.begin(session, NO_FRAMES) {
             Ok(_begun) => Ok(reply),
             Err(error) => {
-                self.plain.unbegin(session);
+                self.lists.unbegin(session);
                 Err(error)
             }
         }
@@ -119,7 +105,7 @@ impl Tracked {
         ensures state { OnOk result (self.new ≡ state_after self.old session (Call.Hold table key.now)) }
         ensures err { OnErr result (self.new ≡ self.old) }
     {
-        self.plain.hold(session, table, key)
+        self.lists.hold(session, table, key)
     }
 
     /// Adds a write to the session's own. It fails only for want of memory.
@@ -131,7 +117,7 @@ impl Tracked {
     {
         let place = place_of(&write)?;
         self.xacts.add_write(session, place)?;
-        if let Err(error) = self.plain.write(session, write) {
+        if let Err(error) = self.lists.write(session, write) {
             self.xacts.unwrite(session);
             return Err(error);
         }
@@ -142,14 +128,14 @@ impl Tracked {
     pub(crate) fn unwrite(&mut self, session: Session)
         ensures takes_back { (before : Machine) (write : Write) → self.old ≡ with_write before session write → self.new ≡ before }
     {
-        let Some(transaction) = self.plain.open_of(session) else {
+        let Some(transaction) = self.lists.open_of(session) else {
             return;
         };
         if transaction.writes.as_slice().is_empty() {
             return;
         }
         self.xacts.unwrite(session);
-        self.plain.unwrite(session);
+        self.lists.unwrite(session);
     }
 
     #[tactic(auto, unfolding(px_calls::specs::Steps::reply_of, px_calls::specs::Steps::state_when_done, px_calls::specs::Steps::state_after))]
@@ -158,11 +144,11 @@ impl Tracked {
         ensures state { self.new ≡ state_after self.old session Call.Commit }
         ensures takes_no_memory { IsOk result }
     {
-        let Some(_transaction) = self.plain.open_of(session) else {
+        let Some(_transaction) = self.lists.open_of(session) else {
             return Ok(Reply::NoTransaction);
         };
         self.xacts.end(session, true);
-        self.plain.commit(session)
+        self.lists.commit(session)
     }
 
     #[tactic(auto, unfolding(px_calls::specs::Steps::reply_of, px_calls::specs::Steps::state_when_done, px_calls::specs::Steps::state_after))]
@@ -171,11 +157,11 @@ impl Tracked {
         ensures state { self.new ≡ state_after self.old session Call.Rollback }
         ensures takes_no_memory { IsOk result }
     {
-        let Some(_transaction) = self.plain.open_of(session) else {
+        let Some(_transaction) = self.lists.open_of(session) else {
             return Ok(Reply::NoTransaction);
         };
         self.xacts.end(session, false);
-        self.plain.rollback(session)
+        self.lists.rollback(session)
     }
 }
 

@@ -1,11 +1,14 @@
-//! Tests of the sessions: they answer as the plain program does, over calls drawn at random.
+//! Tests of the sessions: scripts whose answers were written down before there was a program, and calls drawn at random,
+//! which are answered as a program without an index did.
 //!
-//! `drawn` draws the calls, `machines` makes calls on either of the two and tells what was answered, `tests` compares.
+//! `store` opens stores and makes calls of them, `scripts` has the scripts, `drawn` draws the calls, `tests` runs them.
 #![tactic(auto)]
 
 #[cfg(test)]
 mod drawn;
 #[cfg(test)]
-mod machines;
+mod scripts;
+#[cfg(test)]
+mod store;
 #[cfg(test)]
 mod tests;

@@ -20,10 +20,10 @@ impl<W: Site> Core<W> {
     /// - `Fault`: an append or a sync of the transaction log failed; the core is broken from then on.
     /// - `LogFull`: the call is no refusal and had a frame to append, for which the log has no number left.
     /// - `Broken`: exactly where the core keeps an error of an earlier call.
-    pub fn step(&mut self, session: Session, call: &Call) -> Result<Reply, CoreError>
-        ensures answered { IfOk result (Answers W.tells W.state session call.now self.old self.new) }
-        ensures moments { W.tells → StandsWithin W.state session call.now self.old self.new }
-        ensures refused { IfErr result (Refuses W.tells W.state W.counts session call.now self.old self.new) }
+    pub fn step(&mut self, session: Session, call: Call) -> Result<Reply, CoreError>
+        ensures answered { IfOk result (Answers W.tells W.state session call self.old self.new) }
+        ensures moments { W.tells → StandsWithin W.state session call self.old self.new }
+        ensures refused { IfErr result (Refuses W.tells W.state W.counts session call self.old self.new) }
         ensures broken { (error : SiteError) → self.old.error ≡ Some error → IsErrOf result (CoreError.Broken error) }
         ensures none_fell { NoneFell (W.counts self.old.site) (W.counts self.new.site) }
     {
@@ -46,29 +46,29 @@ impl<W: Site> Core<W> {
     }
 
     // A call that adds nothing to the log.
-    fn answer(&mut self, session: Session, call: &Call) -> Result<Reply, CoreError>
-        requires { adds_nothing call.now ≡ true }
-        ensures answered { IfOk result (Answers W.tells W.state session call.now self.old self.new) }
-        ensures moments { W.tells → StandsWithin W.state session call.now self.old self.new }
-        ensures refused { IfErr result (Refuses W.tells W.state W.counts session call.now self.old self.new) }
+    fn answer(&mut self, session: Session, call: Call) -> Result<Reply, CoreError>
+        requires { adds_nothing call ≡ true }
+        ensures answered { IfOk result (Answers W.tells W.state session call self.old self.new) }
+        ensures moments { W.tells → StandsWithin W.state session call self.old self.new }
+        ensures refused { IfErr result (Refuses W.tells W.state W.counts session call self.old self.new) }
         ensures none_fell { NoneFell (W.counts self.old.site) (W.counts self.new.site) }
     {
         Ok(self.sessions.step(session, call)?)
     }
 
     // A write that isn't refused appends its frame. Where that fails it is taken back.
-    fn write(&mut self, session: Session, call: &Call) -> Result<Reply, CoreError>
-        requires { is_write call.now ≡ true }
-        ensures answered { IfOk result (Answers W.tells W.state session call.now self.old self.new) }
-        ensures moments { W.tells → StandsWithin W.state session call.now self.old self.new }
-        ensures refused { IfErr result (Refuses W.tells W.state W.counts session call.now self.old self.new) }
+    fn write(&mut self, session: Session, call: Call) -> Result<Reply, CoreError>
+        requires { is_write call ≡ true }
+        ensures answered { IfOk result (Answers W.tells W.state session call self.old self.new) }
+        ensures moments { W.tells → StandsWithin W.state session call self.old self.new }
+        ensures refused { IfErr result (Refuses W.tells W.state W.counts session call self.old self.new) }
         ensures none_fell { NoneFell (W.counts self.old.site) (W.counts self.new.site) }
     {
+        let _tag = tag_of(&call);
         let reply = self.sessions.step(session, call)?;
         if reply.is_refusal() {
             return Ok(reply);
         }
-        let _tag = tag_of(call);
         if let Err(error) = self.append_last_write(session) {
             self.sessions.unwrite(session);
             return Err(error);

@@ -13,6 +13,6 @@ impl Sessions {
         ensures state { OnOk result (self.new ≡ state_after self.old session Call.Begin) }
         ensures err { OnErr result (self.new ≡ self.old) }
     {
-        self.plain.begin(session)
+        self.tracked.begin(session)
     }
 }

@@ -11,7 +11,7 @@ impl Sessions {
     pub fn get(&self, session: Session, table: u32, key: &[u8]) -> Result<Reply, AllocError>
         ensures { IfOk result (λ reply. reply ≡ reply_of self.now session (Call.Get table key.now)) }
     {
-        self.plain.machine().get(session, table, key)
+        self.tracked.machine().get(session, table, key)
     }
 
     /// Keeps the row of the key for this transaction's later fetches. It may search the ended transactions.
@@ -20,27 +20,27 @@ impl Sessions {
         ensures state { OnOk result (self.new ≡ state_after self.old session (Call.Hold table key.now)) }
         ensures err { OnErr result (self.new ≡ self.old) }
     {
-        self.plain.hold(session, table, key)
+        self.tracked.hold(session, table, key)
     }
 
     /// The row that the ticket keeps, as it was when it was held.
     pub fn fetch(&self, session: Session, ticket: u32) -> Result<Reply, AllocError>
         ensures { IfOk result (λ reply. reply ≡ reply_of self.now session (Call.Fetch ticket)) }
     {
-        self.plain.machine().fetch(session, ticket)
+        self.tracked.machine().fetch(session, ticket)
     }
 
     /// The rows of the table that have the tag, in order of key. It makes the whole view.
     pub fn find(&self, session: Session, table: u32, tag: u32) -> Result<Reply, AllocError>
         ensures { IfOk result (λ reply. reply ≡ reply_of self.now session (Call.Find table tag)) }
     {
-        self.plain.machine().find(session, table, tag)
+        self.tracked.machine().find(session, table, tag)
     }
 
     /// The rows of the table, in order of key. It makes the whole view.
     pub fn scan(&self, session: Session, table: u32) -> Result<Reply, AllocError>
         ensures { IfOk result (λ reply. reply ≡ reply_of self.now session (Call.Scan table)) }
     {
-        self.plain.machine().scan(session, table)
+        self.tracked.machine().scan(session, table)
     }
 }

@@ -12,11 +12,11 @@ returns-in_err-reply-clause-plays g c = λ tells restart changes stored.
     let new = c.step.new.self in
     let p = err_from_is_err_and c.from_residual.result c.from_residual.ensures.1 in
     let right = refused_right c.in_err-reply.field-0.0 tells c.requires c.in_err-reply.ensures.refused (c.step.ensures.moments tells) restart changes stored in
-    rw p.1 (subst (λ (status : Status). TurnsRight restart changes (c.args.session, c.args.call.now) old new (state old.site) (state new.site) (Err status)) (sym p.2) right)
+    rw p.1 (subst (λ (status : Status). TurnsRight restart changes (c.args.session, c.args.call) old new (state old.site) (state new.site) (Err status)) (sym p.2) right)
 
 pub returns-in_err-reply-clause-moments : goal.returns-in_err-reply-clause-moments
 returns-in_err-reply-clause-moments g c = λ tells.
-    refused_moments g.W.Site.state c.args.session c.args.call.now c.args.core.now c.step.new.self (c.step.ensures.moments tells)
+    refused_moments g.W.Site.state c.args.session c.args.call c.args.core.now c.step.new.self (c.step.ensures.moments tells)
 
 pub returns-clause-plays : goal.returns-clause-plays
 returns-clause-plays g c = λ tells restart changes stored.

@@ -1,4 +1,4 @@
-use Rattle.px_plain.proofs.Running.{on_err}
+use Rattle.px_recovery.proofs.Errors.{on_err}
 use Rattle.px_recovery.proofs.NewMoments.{first_bounds, make_again, make_moments, make_settled}
 use Rattle.px_recovery.proofs.making.make.Goals as goal
 

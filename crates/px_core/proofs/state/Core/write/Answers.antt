@@ -14,99 +14,99 @@ use Rattle.px_core.proofs.state.Core.write.Goals as goal
 
 pub invariant_of-self-then-is_refusal : goal.invariant_of-self-then-is_refusal
 invariant_of-self-then-is_refusal g c =
-    (fits_still c.self.inside.sessions c.step.new.self c.self.inside.log c.args.session c.args.call.now c.self.invariant.0 (write_no_commit c.args.call.now c.requires) c.in_ok-reply.ensures.state, c.self.invariant.1)
+    (fits_still c.self.inside.sessions c.step.new.self c.self.inside.log c.args.session c.args.call c.self.invariant.0 (write_no_commit c.args.call c.requires) c.in_ok-reply.ensures.state, c.self.invariant.1)
 
 pub returns-then-is_refusal-clause-answered : goal.returns-then-is_refusal-clause-answered
 returns-then-is_refusal-clause-answered g c =
     let i = c.self.inside in
     let old : Kept g.row.W.Denot = record { site = i.site; machine = i.sessions; log = i.log; error = i.error } in
-    let none = refused_adds_nothing i.sessions c.args.session c.args.call.now (ap is_refusal (sym c.in_ok-reply.ensures.reply) ∙ sym c.is_refusal.ensures ∙ c.if-is_refusal.true) in
-    subst (λ (k : Kept g.row.W.Denot). Answers g.W.Site.tells g.W.Site.state c.args.session c.args.call.now k (record { site = i.site; machine = c.step.new.self; log = i.log; error = i.error }) c.in_ok-reply.reply) c.self.view_is
-    (answers_silent g.W.Site.tells g.W.Site.state c.args.session c.args.call.now old (record { site = i.site; machine = c.step.new.self; log = i.log; error = i.error }) c.in_ok-reply.reply none c.in_ok-reply.ensures.reply
+    let none = refused_adds_nothing i.sessions c.args.session c.args.call (ap is_refusal (sym c.in_ok-reply.ensures.reply) ∙ sym c.is_refusal.ensures ∙ c.if-is_refusal.true) in
+    subst (λ (k : Kept g.row.W.Denot). Answers g.W.Site.tells g.W.Site.state c.args.session c.args.call k (record { site = i.site; machine = c.step.new.self; log = i.log; error = i.error }) c.in_ok-reply.reply) c.self.view_is
+    (answers_silent g.W.Site.tells g.W.Site.state c.args.session c.args.call old (record { site = i.site; machine = c.step.new.self; log = i.log; error = i.error }) c.in_ok-reply.reply none c.in_ok-reply.ensures.reply
     (ap (λ (m : Machine). record old { machine = m }) c.in_ok-reply.ensures.state))
 
 pub invariant_of-self-2 : goal.invariant_of-self-2
 invariant_of-self-2 g c =
-    (fits_still c.self.inside.sessions c.step.new.self c.self.inside.log c.args.session c.args.call.now c.self.invariant.0 (write_no_commit c.args.call.now c.requires) c.in_ok-reply.ensures.state, c.self.invariant.1)
+    (fits_still c.self.inside.sessions c.step.new.self c.self.inside.log c.args.session c.args.call c.self.invariant.0 (write_no_commit c.args.call c.requires) c.in_ok-reply.ensures.state, c.self.invariant.1)
 
 pub append_last_write-requires : goal.append_last_write-requires
 append_last_write-requires g c =
     let i = c.self.inside in
-    let one = writes_one i.sessions c.args.session c.args.call.now c.requires (ap is_refusal (sym c.in_ok-reply.ensures.reply) ∙ sym c.is_refusal.ensures ∙ c.if-is_refusal.false) in
-    may_put i.sessions c.step.new.self i.log c.args.session c.args.call.now one c.in_ok-reply.ensures.state c.self.invariant.0 c.self.invariant.1 c.tag_of-tag.ensures.fits
+    let one = writes_one i.sessions c.args.session c.args.call c.requires (ap is_refusal (sym c.in_ok-reply.ensures.reply) ∙ sym c.is_refusal.ensures ∙ c.if-is_refusal.false) in
+    may_put i.sessions c.step.new.self i.log c.args.session c.args.call one c.in_ok-reply.ensures.state c.self.invariant.0 c.self.invariant.1 c.tag_of-tag.ensures.fits
 
 pub invariant_of-self-in-Err : goal.invariant_of-self-in-Err
 invariant_of-self-in-Err g c =
     let i = c.self.inside in
-    let one = writes_one i.sessions c.args.session c.args.call.now c.requires (ap is_refusal (sym c.in_ok-reply.ensures.reply) ∙ sym c.is_refusal.ensures ∙ c.if-is_refusal.false) in
+    let one = writes_one i.sessions c.args.session c.args.call c.requires (ap is_refusal (sym c.in_ok-reply.ensures.reply) ∙ sym c.is_refusal.ensures ∙ c.if-is_refusal.false) in
     let moved : c.self-2.inside.sessions ≡ c.step.new.self = ap (λ (k : Kept g.row.W.Denot). k.machine) c.self-2.view_is ∙ c.append_last_write.ensures.machine in
     let back : c.unwrite.new.self ≡ i.sessions = c.unwrite.ensures.takes_back i.sessions one.write (moved ∙ c.in_ok-reply.ensures.state ∙ one.leaves) in
-    let fits = fits_back i.sessions c.self-2.inside.sessions i.log c.self-2.inside.log c.args.session c.args.call.now c.self.invariant.0 c.self-2.invariant.0 (write_no_commit c.args.call.now c.requires) (moved ∙ c.in_ok-reply.ensures.state) in
+    let fits = fits_back i.sessions c.self-2.inside.sessions i.log c.self-2.inside.log c.args.session c.args.call c.self.invariant.0 c.self-2.invariant.0 (write_no_commit c.args.call c.requires) (moved ∙ c.in_ok-reply.ensures.state) in
     (subst (λ (m : Machine). Fits m c.self-2.inside.log) (sym back) fits, c.self-2.invariant.1)
 
 pub returns-in-Err-clause-moments : goal.returns-in-Err-clause-moments
 returns-in-Err-clause-moments g c t =
     let inside : Kept g.row.W.Denot = record { site = c.self.inside.site; machine = c.self.inside.sessions; log = c.self.inside.log; error = c.self.inside.error } in
     let mid : Kept g.row.W.Denot = record inside { machine = c.step.new.self } in
-    let one = writes_one inside.machine c.args.session c.args.call.now c.requires (ap is_refusal (sym c.in_ok-reply.ensures.reply) ∙ sym c.is_refusal.ensures ∙ c.if-is_refusal.false) in
+    let one = writes_one inside.machine c.args.session c.args.call c.requires (ap is_refusal (sym c.in_ok-reply.ensures.reply) ∙ sym c.is_refusal.ensures ∙ c.if-is_refusal.false) in
     let xn = inside.machine.base + one.xact.number in
     let change : Change = Put xn one.write in
-    let writer = writer_is inside.machine c.step.new.self c.args.session c.args.call.now one c.in_ok-reply.ensures.state in
-    let last = last_is inside.machine c.step.new.self c.args.session c.args.call.now one c.in_ok-reply.ensures.state in
-    subst (λ (k : Kept g.row.W.Denot). StandsWithin g.W.Site.state c.args.session c.args.call.now c.args.self.now k) (sym c.self-2.view_is)
-    (stands_adding g.W.Site.tells g.W.Site.state c.args.session c.args.call.now change c.args.self.now mid c.append_last_write.new.self (write_no_commit c.args.call.now c.requires)
-    (adds_one g.W.Site.tells g.W.Site.state c.args.session c.args.call.now change inside c.args.self.now mid c.append_last_write.new.self c.self.view_is c.self.invariant.0 c.self.invariant.1 c.tag_of-tag.ensures.fits one.adds refl refl
+    let writer = writer_is inside.machine c.step.new.self c.args.session c.args.call one c.in_ok-reply.ensures.state in
+    let last = last_is inside.machine c.step.new.self c.args.session c.args.call one c.in_ok-reply.ensures.state in
+    subst (λ (k : Kept g.row.W.Denot). StandsWithin g.W.Site.state c.args.session c.args.call c.args.self.now k) (sym c.self-2.view_is)
+    (stands_adding g.W.Site.tells g.W.Site.state c.args.session c.args.call change c.args.self.now mid c.append_last_write.new.self (write_no_commit c.args.call c.requires)
+    (adds_one g.W.Site.tells g.W.Site.state c.args.session c.args.call change inside c.args.self.now mid c.append_last_write.new.self c.self.view_is c.self.invariant.0 c.self.invariant.1 c.tag_of-tag.ensures.fits one.adds refl refl
     (λ t. c.append_last_write.ensures.moments t xn one.write writer last)) t)
 
 pub returns-in-Err-clause-refused : goal.returns-in-Err-clause-refused
 returns-in-Err-clause-refused g c =
     let inside : Kept g.row.W.Denot = record { site = c.self.inside.site; machine = c.self.inside.sessions; log = c.self.inside.log; error = c.self.inside.error } in
     let mid : Kept g.row.W.Denot = record inside { machine = c.step.new.self } in
-    let one = writes_one inside.machine c.args.session c.args.call.now c.requires (ap is_refusal (sym c.in_ok-reply.ensures.reply) ∙ sym c.is_refusal.ensures ∙ c.if-is_refusal.false) in
+    let one = writes_one inside.machine c.args.session c.args.call c.requires (ap is_refusal (sym c.in_ok-reply.ensures.reply) ∙ sym c.is_refusal.ensures ∙ c.if-is_refusal.false) in
     let xn = inside.machine.base + one.xact.number in
     let change : Change = Put xn one.write in
-    let writer = writer_is inside.machine c.step.new.self c.args.session c.args.call.now one c.in_ok-reply.ensures.state in
-    let last = last_is inside.machine c.step.new.self c.args.session c.args.call.now one c.in_ok-reply.ensures.state in
+    let writer = writer_is inside.machine c.step.new.self c.args.session c.args.call one c.in_ok-reply.ensures.state in
+    let last = last_is inside.machine c.step.new.self c.args.session c.args.call one c.in_ok-reply.ensures.state in
     let old : Kept g.row.W.Denot = c.args.self.now in
     let moved : c.self-2.inside.sessions ≡ c.step.new.self = ap (λ (k : Kept g.row.W.Denot). k.machine) c.self-2.view_is ∙ c.append_last_write.ensures.machine in
     let back : c.unwrite.new.self ≡ old.machine = c.unwrite.ensures.takes_back inside.machine one.write (moved ∙ c.in_ok-reply.ensures.state ∙ one.leaves) ∙ ap (λ (k : Kept g.row.W.Denot). k.machine) c.self.view_is in
     let same : mid ≡ record old { machine = mid.machine } = ap (λ (k : Kept g.row.W.Denot). record k { machine = mid.machine }) c.self.view_is in
-    let adds = subst (λ (k : Kept g.row.W.Denot). logged k.machine c.args.session c.args.call.now ≡ change ∷ []) c.self.view_is one.adds in
+    let adds = subst (λ (k : Kept g.row.W.Denot). logged k.machine c.args.session c.args.call ≡ change ∷ []) c.self.view_is one.adds in
     let fails = refuses_back g.W.Site.tells g.W.Site.state g.W.Site.counts change old mid c.append_last_write.new.self c.in-Err.error same (c.in-Err.ensures.refused xn one.write writer last) in
-    let refused = refuses_adding g.W.Site.tells g.W.Site.state g.W.Site.counts c.args.session c.args.call.now change old (record c.append_last_write.new.self { machine = old.machine }) c.in-Err.error adds
-    (inr (λ P. write_no_end P c.args.call.now c.requires)) fails in
-    subst (λ (m : Machine). Refuses g.W.Site.tells g.W.Site.state g.W.Site.counts c.args.session c.args.call.now old (record { site = c.self-2.inside.site; machine = m; log = c.self-2.inside.log; error = c.self-2.inside.error }) c.in-Err.error) (sym back)
-    (subst (λ (k : Kept g.row.W.Denot). Refuses g.W.Site.tells g.W.Site.state g.W.Site.counts c.args.session c.args.call.now old (record k { machine = old.machine }) c.in-Err.error) (sym c.self-2.view_is) refused)
+    let refused = refuses_adding g.W.Site.tells g.W.Site.state g.W.Site.counts c.args.session c.args.call change old (record c.append_last_write.new.self { machine = old.machine }) c.in-Err.error adds
+    (inr (λ P. write_no_end P c.args.call c.requires)) fails in
+    subst (λ (m : Machine). Refuses g.W.Site.tells g.W.Site.state g.W.Site.counts c.args.session c.args.call old (record { site = c.self-2.inside.site; machine = m; log = c.self-2.inside.log; error = c.self-2.inside.error }) c.in-Err.error) (sym back)
+    (subst (λ (k : Kept g.row.W.Denot). Refuses g.W.Site.tells g.W.Site.state g.W.Site.counts c.args.session c.args.call old (record k { machine = old.machine }) c.in-Err.error) (sym c.self-2.view_is) refused)
 
 pub returns-clause-answered : goal.returns-clause-answered
 returns-clause-answered g c =
     let inside : Kept g.row.W.Denot = record { site = c.self.inside.site; machine = c.self.inside.sessions; log = c.self.inside.log; error = c.self.inside.error } in
     let mid : Kept g.row.W.Denot = record inside { machine = c.step.new.self } in
-    let one = writes_one inside.machine c.args.session c.args.call.now c.requires (ap is_refusal (sym c.in_ok-reply.ensures.reply) ∙ sym c.is_refusal.ensures ∙ c.if-is_refusal.false) in
+    let one = writes_one inside.machine c.args.session c.args.call c.requires (ap is_refusal (sym c.in_ok-reply.ensures.reply) ∙ sym c.is_refusal.ensures ∙ c.if-is_refusal.false) in
     let xn = inside.machine.base + one.xact.number in
     let change : Change = Put xn one.write in
-    let writer = writer_is inside.machine c.step.new.self c.args.session c.args.call.now one c.in_ok-reply.ensures.state in
-    let last = last_is inside.machine c.step.new.self c.args.session c.args.call.now one c.in_ok-reply.ensures.state in
+    let writer = writer_is inside.machine c.step.new.self c.args.session c.args.call one c.in_ok-reply.ensures.state in
+    let last = last_is inside.machine c.step.new.self c.args.session c.args.call one c.in_ok-reply.ensures.state in
     let appends = c.in_default.ensures.appended xn one.write writer last in
     let new : Kept g.row.W.Denot = c.append_last_write.new.self in
-    let state_is = c.in_ok-reply.ensures.state ∙ ap (λ (k : Kept g.row.W.Denot). state_after k.machine c.args.session c.args.call.now) c.self.view_is in
-    subst (λ (m : Machine). Answers g.W.Site.tells g.W.Site.state c.args.session c.args.call.now c.args.self.now (record new { machine = m }) c.in_ok-reply.reply) (sym appends.machine)
-    (answers_adding g.W.Site.tells g.W.Site.state c.args.session c.args.call.now change c.args.self.now mid new c.in_ok-reply.reply (write_no_commit c.args.call.now c.requires)
-    (adds_one g.W.Site.tells g.W.Site.state c.args.session c.args.call.now change inside c.args.self.now mid c.append_last_write.new.self c.self.view_is c.self.invariant.0 c.self.invariant.1 c.tag_of-tag.ensures.fits one.adds refl refl
+    let state_is = c.in_ok-reply.ensures.state ∙ ap (λ (k : Kept g.row.W.Denot). state_after k.machine c.args.session c.args.call) c.self.view_is in
+    subst (λ (m : Machine). Answers g.W.Site.tells g.W.Site.state c.args.session c.args.call c.args.self.now (record new { machine = m }) c.in_ok-reply.reply) (sym appends.machine)
+    (answers_adding g.W.Site.tells g.W.Site.state c.args.session c.args.call change c.args.self.now mid new c.in_ok-reply.reply (write_no_commit c.args.call c.requires)
+    (adds_one g.W.Site.tells g.W.Site.state c.args.session c.args.call change inside c.args.self.now mid c.append_last_write.new.self c.self.view_is c.self.invariant.0 c.self.invariant.1 c.tag_of-tag.ensures.fits one.adds refl refl
     (λ t. c.append_last_write.ensures.moments t xn one.write writer last))
     appends (ap (λ (k : Kept g.row.W.Denot). k.error) c.self.view_is) c.step.new.self state_is
     (subst (λ (k : Kept g.row.W.Denot). k.log.frames ≤ 2 ^ 48) c.self-2.view_is c.self-2.invariant.1) (λ t name. g.met.W.Site.reads_image t new.site name)
-    (c.in_ok-reply.ensures.reply ∙ ap (λ (k : Kept g.row.W.Denot). reply_of k.machine c.args.session c.args.call.now) c.self.view_is))
+    (c.in_ok-reply.ensures.reply ∙ ap (λ (k : Kept g.row.W.Denot). reply_of k.machine c.args.session c.args.call) c.self.view_is))
 
 pub returns-clause-moments : goal.returns-clause-moments
 returns-clause-moments g c t =
     let inside : Kept g.row.W.Denot = record { site = c.self.inside.site; machine = c.self.inside.sessions; log = c.self.inside.log; error = c.self.inside.error } in
     let mid : Kept g.row.W.Denot = record inside { machine = c.step.new.self } in
-    let one = writes_one inside.machine c.args.session c.args.call.now c.requires (ap is_refusal (sym c.in_ok-reply.ensures.reply) ∙ sym c.is_refusal.ensures ∙ c.if-is_refusal.false) in
+    let one = writes_one inside.machine c.args.session c.args.call c.requires (ap is_refusal (sym c.in_ok-reply.ensures.reply) ∙ sym c.is_refusal.ensures ∙ c.if-is_refusal.false) in
     let xn = inside.machine.base + one.xact.number in
     let change : Change = Put xn one.write in
-    let writer = writer_is inside.machine c.step.new.self c.args.session c.args.call.now one c.in_ok-reply.ensures.state in
-    let last = last_is inside.machine c.step.new.self c.args.session c.args.call.now one c.in_ok-reply.ensures.state in
-    stands_adding g.W.Site.tells g.W.Site.state c.args.session c.args.call.now change c.args.self.now mid c.append_last_write.new.self (write_no_commit c.args.call.now c.requires)
-    (adds_one g.W.Site.tells g.W.Site.state c.args.session c.args.call.now change inside c.args.self.now mid c.append_last_write.new.self c.self.view_is c.self.invariant.0 c.self.invariant.1 c.tag_of-tag.ensures.fits one.adds refl refl
+    let writer = writer_is inside.machine c.step.new.self c.args.session c.args.call one c.in_ok-reply.ensures.state in
+    let last = last_is inside.machine c.step.new.self c.args.session c.args.call one c.in_ok-reply.ensures.state in
+    stands_adding g.W.Site.tells g.W.Site.state c.args.session c.args.call change c.args.self.now mid c.append_last_write.new.self (write_no_commit c.args.call c.requires)
+    (adds_one g.W.Site.tells g.W.Site.state c.args.session c.args.call change inside c.args.self.now mid c.append_last_write.new.self c.self.view_is c.self.invariant.0 c.self.invariant.1 c.tag_of-tag.ensures.fits one.adds refl refl
     (λ t. c.append_last_write.ensures.moments t xn one.write writer last)) t

@@ -1,15 +1,9 @@
-use Rattle.std.proofs.Common.{is_some, cond, not, None, ◌&&◌, take, length, ◌-◌, sym, ap, ◌∙◌}
+use Rattle.std.proofs.Common.{cond, not, None, ◌&&◌, take, length, ◌-◌, sym, ap, ◌∙◌}
 use Rattle.std.specs.Option.{option_copied}
-use Rattle.px_model.specs.Rows.{key_written, same_key, has_write_of}
+use Rattle.px_model.specs.Rows.{same_key, has_write_of}
 use Rattle.px_locks.specs.Holders.{holder_of}
-use Rattle.px_sessions.proofs.Unwritten.{has-last_write, after-last}
+use Rattle.px_sessions.proofs.Unwritten.{after-last}
 use Rattle.px_sessions.proofs.sessions.writing.free_last.Goals as goal
-
-pub free_unless-requires : goal.free_unless-requires
-free_unless-requires c =
-    let at = sym c.last.ensures.value ∙ ap option_copied c.in-Some.is in
-    ap (λ k. is_some (holder_of k c.args.locks.now)) (sym c.key_of-table.ensures)
-    ∙ c.requires (key_written c.in-Some.last.now) (has-last_write c.args.writes.now c.in-Some.last.now at)
 
 pub returns : goal.returns
 returns c = λ q.

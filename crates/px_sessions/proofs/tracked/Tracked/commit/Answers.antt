@@ -7,11 +7,11 @@ use Rattle.px_sessions.proofs.tracked.Tracked.commit.Goals as goal
 
 pub end-requires : goal.end-requires
 end-requires c =
-    is_open_mirrors c.self.inside.plain c.self.inside.xacts c.args.session c.self.invariant
+    is_open_mirrors c.self.inside.lists c.self.inside.xacts c.args.session c.self.invariant
     ∙ ap is_some (sym c.open_of.ensures ∙ ap option_copied c.in-Some.is)
 
 pub invariant_of-self : goal.invariant_of-self
 invariant_of-self c =
     let at = sym c.open_of.ensures ∙ ap option_copied c.in-Some.is in
-    mirrored_by _ _ _ _ (c.commit.ensures.state ∙ committed-done c.self.inside.plain c.args.session c.in-Some._transaction.now at) c.end.ensures
-    (end_mirrors c.self.inside.plain c.self.inside.xacts c.args.session true c.self.invariant)
+    mirrored_by _ _ _ _ (c.commit.ensures.state ∙ committed-done c.self.inside.lists c.args.session c.in-Some._transaction.now at) c.end.ensures
+    (end_mirrors c.self.inside.lists c.self.inside.xacts c.args.session true c.self.invariant)

@@ -16,4 +16,4 @@ unwrite-requires c =
 pub invariant_of-self-in_default : goal.invariant_of-self-in_default
 invariant_of-self-in_default c =
     mirrored_by _ _ _ _ c.in_default.ensures.ok c.in_ok-add_write.ensures.ok
-    (write_mirrors c.self.inside.plain c.self.inside.xacts c.args.session c.args.write c.in_ok-place.place c.self.invariant c.in_ok-place.ensures)
+    (write_mirrors c.self.inside.lists c.self.inside.xacts c.args.session c.args.write c.in_ok-place.place c.self.invariant c.in_ok-place.ensures)
