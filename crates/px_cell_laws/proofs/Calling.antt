@@ -51,7 +51,7 @@ same_chains m n store h base same = record {
 }
 
 -- another machine with these chains and ends
-holds_the_same : (m n : Machine) (store : Store) → HoldsChains m store → KeepsBase m n → n.ended ≡ m.ended → ((key : Key) → chain n key ≡ chain m key)
+pub holds_the_same : (m n : Machine) (store : Store) → HoldsChains m store → KeepsBase m n → n.ended ≡ m.ended → ((key : Key) → chain n key ≡ chain m key)
     → HoldsChains n store
 holds_the_same m n store h keeps ended same = record {
   sound = subst (λ (short : ℕ). AreSound short store.tables store.layouts) (sym keeps.short) h.sound;

@@ -4,7 +4,12 @@ pub mod Chained
 pub mod Beginning
 pub mod Calling
 pub mod Fitting
+pub mod Ended
+pub mod Cutting
 pub mod Writing
 pub mod Ending
 pub mod Showing
+pub mod Sweeping
+pub mod Covering
+pub mod Swept
 pub mod Small

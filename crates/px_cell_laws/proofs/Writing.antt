@@ -1,32 +1,31 @@
 -- The store after the link of a version that a call writes.
-use Rattle.std.proofs.Common.{◌≡◌, ◌≢◌, ℕ, ◌+◌, ◌<◌, ◌≤◌, Bool, true, false, cond, inl, inr, List, [], ◌∷◌, ◌++◌, map, reverse, take, drop, set, get_or, Option, Some, None, refl, sym, ap, subst, ◌∙◌, arith, ⊎_elim}
+use Rattle.std.proofs.Common.{◌≡◌, ◌≢◌, ℕ, ◌+◌, ◌<◌, ◌≤◌, Bool, true, false, cond, inl, inr, List, [], ◌∷◌, ◌++◌, map, reverse, drop, set, get_or, Option, Some, None, refl, sym, ap, subst, ◌∙◌, arith, ⊎_elim}
 use Rattle.std.specs.Prelude.{◌⊎◌, All, IfSome}
 use Rattle.std.proofs.lemmas.Bool.{cases_lt, false≢true, lt-leb, ne_eqb}
 use Rattle.std.proofs.lemmas.Option.{none-some, same_Some}
-use Rattle.std.proofs.lemmas.List.Elements.{All-append, All-cons, All-drop, All-filter, All-map, All-nil, All-same, All-take, All-weaker}
+use Rattle.std.proofs.lemmas.List.Elements.{All-append, All-cons, All-drop, All-filter, All-map, All-same, All-weaker}
 use Rattle.px_calls.specs.declared.call.Call.{Call}
 use Rattle.px_calls.specs.declared.call.Call.TheVariants.{Begin, Get, Hold, Fetch, Find, Scan, Insert, Update, Delete as DeleteCall, Commit, Rollback}
 use Rattle.px_calls.specs.Steps.{is_refusal, open_of, open_writer, reply_of, state_after, write_refusal}
 use Rattle.px_cells.specs.declared.header.Header.{Header}
 use Rattle.px_cells.specs.declared.slot.Slot.{Slot}
 use Rattle.px_chain_laws.specs.Kept.{IsKept}
-use Rattle.px_chain_laws.specs.Reading.{is_committed, standing_in}
+use Rattle.px_chain_laws.specs.Reading.{is_committed}
+use Rattle.px_chain_laws.specs.Sweeping.{base_of}
 use Rattle.px_chain_laws.specs.Writing.{write_of as written_by}
 use Rattle.px_chain_laws.proofs.Looking.{by}
 use Rattle.px_chain_laws.proofs.Moving.{answered, answered_write_is_newest, free, held_alone, no_conflict, nobody_writes, slots_at, writes_at, writes_keep_other_chains}
-use Rattle.px_chain_laws.proofs.Reading.{committed_found}
 use Rattle.px_chain_laws.proofs.Standings.{IsTold, ended_are_told}
 use Rattle.px_history.specs.Steps.{IsStep, Step, after_put, after_step, layout_linked}
 use Rattle.px_history.specs.Store.{IsOpen, Store, versions_of}
 use Rattle.px_history.specs.Writers.{IsAlone}
 use Rattle.px_history.proofs.Agreeing.{link_of}
-use Rattle.px_model.specs.Chains.{base_or, chain, is_put, last_committed, of_ended, of_key}
+use Rattle.px_model.specs.Chains.{chain, of_ended, of_key}
 use Rattle.px_model.specs.Machine.{Machine, flat}
-use Rattle.px_model.specs.Rows.{Key, key_written, row_at, same_key}
+use Rattle.px_model.specs.Rows.{Key, key_written, same_key}
 use Rattle.px_model.specs.declared.machine.Flat.{Flat}
 use Rattle.px_model.specs.declared.machine.Open.{Open}
 use Rattle.px_model.specs.declared.machine.Variation.{Variation}
-use Rattle.px_model.specs.declared.row.Row.{Row}
 use Rattle.px_model.specs.declared.write.Write.{Write}
 use Rattle.px_model.specs.declared.write.Write.TheVariants.{Put, Delete}
 use Rattle.px_shown.specs.Shown.{AreToldByChains, write_of}
@@ -37,12 +36,12 @@ use Rattle.px_shown.proofs.Keys.{same_key-not}
 use Rattle.px_shown.proofs.Rows.{chains_of, told_by_rows, told_of_rows}
 use Rattle.px_shown.proofs.Told.{IsChanged, told_changed, told_here}
 use Rattle.px_tables.specs.Linking.{version_of}
-use Rattle.px_xacts.specs.Transactions.{standing_at}
 use Rattle.px_cell_laws.specs.Holding.{HoldsChains, if_any, is_rolled_back, newest_first, variation_in, variations_in}
 use Rattle.px_cell_laws.specs.Writing.{IsWriteBy}
 use Rattle.px_cell_laws.proofs.Beginning.{open_may_commit}
 use Rattle.px_cell_laws.proofs.Calling.{found_of, same_standing}
 use Rattle.px_cell_laws.proofs.Chained.{numbers_changed, variations_blind}
+use Rattle.px_cell_laws.proofs.Ended.{HasEnded, IsEnded, bases_ended, ended_is_past, of_told}
 use Rattle.px_cell_laws.proofs.Ends.{calls_keep_base, calls_keep_ended, writes_end_nothing}
 use Rattle.px_cell_laws.proofs.Lists.{all_reversed, all_unmapped, any_same, reverse_push}
 
@@ -100,27 +99,16 @@ nobody_else m s (DeleteCall table key) x w at writes done =
 nobody_else m s Commit x w at writes done = absurd (none-some w writes)
 nobody_else m s Rollback x w at writes done = absurd (none-some w writes)
 
--- its transaction ended
-record HasEnded (m : Machine) (xn : ℕ) : Type 0 where
-  pub place : ℕ
-  pub committed : Bool
-  pub so : standing_in m (Some xn) ≡ standing_at place committed
-
 -- the variation is of the opening, of this transaction, or of one that ended
 abbrev IsOwnOrEnded : Machine → (own : ℕ) → Variation → Type 0
 IsOwnOrEnded m own v = IfSome v.xn (λ xn. (xn ≡ own) ⊎ HasEnded m xn)
 
-of_told : (m : Machine) (own : ℕ) (f : Flat) → IsTold m f → IsOwnOrEnded m own (of_ended m.base f)
-of_told m own f told = inr (record { place = f.place; committed = f.committed; so = told })
-
-base_is : (m : Machine) (own : ℕ) (row : Option Row) (o : Option Flat) → IfSome o (IsTold m) → All (IsOwnOrEnded m own) (base_or m.base row o)
-base_is m own None None told = All-nil (IsOwnOrEnded m own)
-base_is m own (Some row) None told = All-cons (IsOwnOrEnded m own) (by None (Put row)) [] tt (All-nil (IsOwnOrEnded m own))
-base_is m own row (Some f) told =
-    elim (is_put f.write) as (λ b. All (IsOwnOrEnded m own) (cond b (of_ended m.base f ∷ []) [])) [
-      | true ↦ All-cons (IsOwnOrEnded m own) (of_ended m.base f) [] (of_told m own f told) (All-nil (IsOwnOrEnded m own))
-      | false ↦ All-nil (IsOwnOrEnded m own)
-    ]
+if_ended : (m : Machine) (own : ℕ) (v : Variation) → IsEnded m v → IsOwnOrEnded m own v
+if_ended m own v = of_number v.xn
+  where
+    of_number : (o : Option ℕ) → IfSome o (HasEnded m) → IfSome o (λ xn. (xn ≡ own) ⊎ HasEnded m xn)
+    of_number None ended = tt
+    of_number (Some xn) ended = inr ended
 
 chain_is : (m : Machine) (s : ℕ) (x : Open) (key : Key) → IsKept m → open_of m s ≡ Some x → open_writer key (set m.active s None) ≡ None
     → All (IsOwnOrEnded m (m.base + x.number)) (chain m key)
@@ -129,27 +117,22 @@ chain_is m s x key k at nobody =
     let own = m.base + x.number in
     let P : Variation → Type 0 = IsOwnOrEnded m own in
     let test : Variation → Bool = λ v. same_key key (key_written v.write) in
-    let was = last_committed key (take m.swept (flat m)) in
     let passed = drop m.swept (flat m) in
-    let told = ended_are_told m k.numbered in
-    let base_told : IfSome was (IsTold m) = committed_found key (IsTold m) (take m.swept (flat m))
-    (All-weaker (IsTold m) (λ (f : Flat). f.committed ≡ true → IsTold m f) (λ f t c. t) (take m.swept (flat m)) (All-take (IsTold m) m.swept (flat m) told)) in
-    let of_base = base_is m own (row_at key m.opening) was base_told in
+    let of_base : All P (base_of m key) = All-weaker (IsEnded m) P (if_ended m own) (base_of m key) (bases_ended m key k) in
     let of_passed = All-filter test P (map (of_ended m.base) passed) (All-map P (of_ended m.base) passed
-    (All-weaker (IsTold m) (λ (f : Flat). P (of_ended m.base f)) (of_told m own) passed (All-drop (IsTold m) m.swept (flat m) told))) in
+    (All-weaker (IsTold m) (λ (f : Flat). P (of_ended m.base f)) (λ f told. inr (of_told m f told)) passed (All-drop (IsTold m) m.swept (flat m) (ended_are_told m k.numbered)))) in
     let of_own : All P (slots_at key m.base m.active) = All-same P (slots_at key m.base m.active) (writes_at key (Some own) x.writes)
     (held_alone key m.base m.active s x at (nobody_writes key m.base (set m.active s None) nobody))
     (All-filter test P (map (by (Some own)) x.writes) (All-map P (by (Some own)) x.writes (λ i d lt. inl refl))) in
-    All-append P (base_or m.base (row_at key m.opening) was ++ of_key key (map (of_ended m.base) passed)) (slots_at key m.base m.active)
-    (All-append P (base_or m.base (row_at key m.opening) was) (of_key key (map (of_ended m.base) passed)) of_base of_passed) of_own
+    All-append P (base_of m key ++ of_key key (map (of_ended m.base) passed)) (slots_at key m.base m.active)
+    (All-append P (base_of m key) (of_key key (map (of_ended m.base) passed)) of_base of_passed) of_own
 
 -- who ended can't commit any more
 ended_is_not_open : (m : Machine) (store : Store) (xn : ℕ) → HoldsChains m store → m.base < xn → HasEnded m xn → IsOpen store xn → ⊥
-ended_is_not_open m store xn h past ended its = how ended.committed ended.so
-  where
-    how : (committed : Bool) → standing_in m (Some xn) ≡ standing_at ended.place committed → ⊥
-    how true so = false≢true (sym its.undone ∙ h.done xn past ∙ ap is_committed so)
-    how false so = false≢true (sym its.not_over ∙ h.over xn past ∙ ap is_rolled_back so)
+ended_is_not_open m store xn h past ended its = ⊎_elim
+    (λ (done : store.done xn ≡ true). false≢true (sym its.undone ∙ done))
+    (λ (over : store.over xn ≡ true). false≢true (sym its.not_over ∙ over))
+    (ended_is_past m store xn h past ended)
 
 other_version : (m : Machine) (store : Store) (t own other : ℕ) (s : Slot) → HoldsChains m store → (s.xn ≤ m.base → store.done s.xn ≡ true)
     → IsOwnOrEnded m own (variation_in m.base t s) → IsOpen store other → other ≢ own → s.xn ≢ other

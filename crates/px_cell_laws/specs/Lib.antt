@@ -1,4 +1,5 @@
 pub mod Holding
 pub mod Writing
+pub mod Sweeping
 pub mod Reading
 pub mod Worked

@@ -1,7 +1,8 @@
-ghost use Rattle.std.specs.Prelude.{◌≡◌, ◌≢◌, ◌<◌, ◌≤◌, ◌+◌, ◌-◌, ℕ, List, [], ◌∷◌, All, None, Some, false, map, option_map, reverse, true};
+ghost use Rattle.std.specs.Prelude.{◌≡◌, ◌≢◌, ◌<◌, ◌≤◌, ◌+◌, ◌-◌, ℕ, List, [], ◌∷◌, All, None, Some, false, map, option_map, reverse, slice_get, true};
 ghost use Rattle.px_calls.specs.Steps.{is_refusal, open_of, reply_of, state_after};
 ghost use Rattle.px_calls.specs.declared.call.Call.{Call};
 ghost use Rattle.px_calls.specs.declared.call.Call.TheVariants.{Commit, Rollback};
+ghost use Rattle.px_calls.specs.Sweeps.{swept_state};
 ghost use Rattle.px_cells.specs.declared.header.Header.{Header};
 ghost use Rattle.px_cells.specs.declared.slot.Slot.{Slot};
 ghost use Rattle.px_chain.specs.Sound.{IsUsedRow, key_of};
@@ -12,7 +13,8 @@ ghost use Rattle.px_history.specs.Steps.{IsStep, Step, after_step};
 ghost use Rattle.px_history.specs.Store.{IsOpen, IsTidied, Store, nothing, versions_of};
 ghost use Rattle.px_history.specs.Writers.{HaveOneWriter, IsAlone};
 ghost use Rattle.px_model.specs.Chains.{chain};
-ghost use Rattle.px_model.specs.Machine.{Machine, commits, fresh, published, view};
+ghost use Rattle.px_model.specs.Machine.{Machine, commits, flat, fresh, horizon, published, view};
+ghost use Rattle.px_model.specs.declared.machine.Flat.{Flat};
 ghost use Rattle.px_model.specs.Rows.{Key, in_order, key_written, row_at};
 ghost use Rattle.px_model.specs.declared.machine.Open.{Open};
 ghost use Rattle.px_model.specs.declared.row.Row.{Row};
@@ -26,6 +28,7 @@ ghost use Rattle.px_xacts.specs.Transactions.{Transactions};
 ghost use Rattle.px_xacts_laws.specs.Mirrors.{Mirrors};
 ghost use Rattle.px_cell_laws.specs.Holding.{HoldsChains, variation_in};
 ghost use Rattle.px_cell_laws.specs.Reading.{slot_seen};
+ghost use Rattle.px_cell_laws.specs.Sweeping.{IsSweptAt, sweep_count_of, sweep_of};
 ghost use Rattle.px_cell_laws.specs.Worked.{begun, body, committed, new_machine, one_row, one_version, written};
 ghost use Rattle.px_cell_laws.specs.Writing.{IsWriteBy, is_end};
 
@@ -101,6 +104,33 @@ pub fn other_calls_leave_the_cells()
     ensures wrote_nothing { (m : Machine) (store : Store) (session : ℕ) (call : Call) (xact : Open)
         → HoldsChains m store → IsKept m → is_end call ≡ true → open_of m session ≡ Some xact → xact.writes ≡ []
         → HoldsChains (state_after m session call) store }
+{}
+
+/// The write that is swept next made a version that still stands in the row of its key; behind that stands the base alone, if
+/// there is one.
+pub fn a_swept_write_has_its_version()
+    ensures there { (m : Machine) (store : Store) (w : Flat) → HoldsChains m store
+        → slice_get (flat m) m.swept ≡ Some w → w.place < horizon m
+        → (row place : ℕ) × IsSweptAt m store w (key_written w.write).0 row place }
+    ensures slot { (m : Machine) (store : Store) (w : Flat) (t row place : ℕ) (slot : Slot) → HoldsChains m store
+        → IsSweptAt m store w t row place → slice_get (versions_of store t row) place ≡ Some slot
+        → (slot.xn ≡ m.base + w.number) × (write_of t slot ≡ w.write) }
+{}
+
+/// A sweep goes with an unlink, of one version or two: behind a row that committed the base goes; a deletion that committed goes
+/// with the base; what was rolled back goes alone. The unlink may follow, and the store after it holds the chains after the
+/// sweep. Where nothing goes, the store holds them as it is.
+pub fn a_sweep_is_an_unlink()
+    ensures moves { (m : Machine) (store : Store) (w : Flat) (t row place : ℕ) → HoldsChains m store → IsKept m
+        → IsSweptAt m store w t row place → 1 ≤ sweep_count_of store w t row place
+        → IsStep m.short store (sweep_of store w t row place) }
+    ensures chains { (m : Machine) (store : Store) (w : Flat) (t row place : ℕ) → HoldsChains m store → IsKept m
+        → IsSweptAt m store w t row place → 1 ≤ sweep_count_of store w t row place
+        → HoldsChains (swept_state m) (after_step store (sweep_of store w t row place)) }
+    ensures nothing { (m : Machine) (store : Store) (w : Flat) (t row place : ℕ) → HoldsChains m store → IsKept m
+        → IsSweptAt m store w t row place → sweep_count_of store w t row place ≡ 0 → HoldsChains (swept_state m) store }
+    ensures few { (m : Machine) (store : Store) (w : Flat) (t row place : ℕ) → IsSweptAt m store w t row place
+        → sweep_count_of store w t row place ≤ 2 }
 {}
 
 /// The cells show the rows that are committed now.
