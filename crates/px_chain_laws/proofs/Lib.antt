@@ -3,6 +3,7 @@ pub mod Examples
 pub mod Horizon
 pub mod Keeping
 pub mod Looking
+pub mod Gathered
 pub mod Moving
 pub mod Reading
 pub mod Standings

@@ -1,5 +1,5 @@
 -- How chains move with each call.
-use Rattle.std.proofs.Common.{◌≡◌, ℕ, zero, suc, ◌+◌, ◌<◌, Bool, true, false, cond, eqb, inl, inr, List, [], ◌∷◌, ◌++◌, map, length, take, drop, get_or, set, Option, Some, None, option_map, refl, sym, ap, subst, ◌∙◌, arith}
+use Rattle.std.proofs.Common.{◌≡◌, ℕ, zero, suc, ◌+◌, ◌<◌, Bool, true, false, cond, eqb, inl, inr, List, [], ◌∷◌, ◌++◌, map, length, take, drop, get_or, set, Option, Some, None, option_map, refl, sym, ap, subst, ◌∙◌}
 use Rattle.std.specs.Prelude.{is_some, slice_set, flat_map}
 use Rattle.std.specs.Cmp.{eq_by_cmp_equiv}
 use Rattle.std.proofs.lemmas.Bool.{true≢false, eqb-true, cases_lt, or_parts}
@@ -29,6 +29,7 @@ use Rattle.px_xacts.proofs.Lists.{slot_cases}
 use Rattle.px_xacts_laws.proofs.Mirroring.{flat_from-append}
 use Rattle.px_chain_laws.specs.Kept.{IsKept}
 use Rattle.px_chain_laws.specs.Writing.{write_of}
+use Rattle.px_chain_laws.proofs.Gathered.{gathered_alike, gathered_alone}
 use Rattle.px_chain_laws.proofs.Looking.{by}
 
 -- ---- what a key has of writes
@@ -52,7 +53,7 @@ one_at key xn w is = ap (λ b. cond b (by xn w ∷ []) []) is
 one_elsewhere : (key : Key) (xn : Option ℕ) (w : Write) → same_key key (key_written w) ≡ false → writes_at key xn (w ∷ []) ≡ []
 one_elsewhere key xn w is = ap (λ b. cond b (by xn w ∷ []) []) is
 
-none_at : (key : Key) (xn : Option ℕ) (writes : List Write) → has_write_of key writes ≡ false → writes_at key xn writes ≡ []
+pub none_at : (key : Key) (xn : Option ℕ) (writes : List Write) → has_write_of key writes ≡ false → writes_at key xn writes ≡ []
 none_at key xn [] none = refl
 none_at key xn (w ∷ writes) none =
     let parts = or_parts (same_key key (key_written w)) (has_write_of key writes) none in
@@ -70,31 +71,14 @@ slots_first key base slot slots = filter-append (λ (v : Variation). same_key ke
 -- a slot changes, and has the same of the key
 slot_alike : (key : Key) (base : ℕ) (slots : List (Option Open)) (s : ℕ) (slot : Option Open)
     → of_key key (of_slot base slot) ≡ of_key key (of_slot base (get_or slots s None)) → slots_at key base (set slots s slot) ≡ slots_at key base slots
-slot_alike key base [] s slot same = refl
-slot_alike key base (z ∷ slots) zero slot same =
-    slots_first key base slot slots ∙ ap (λ l. l ++ slots_at key base slots) same ∙ sym (slots_first key base z slots)
-slot_alike key base (z ∷ slots) (suc s) slot same =
-    slots_first key base z (set slots s slot)
-    ∙ ap (λ l. of_key key (of_slot base z) ++ l) (slot_alike key base slots s slot same)
-    ∙ sym (slots_first key base z slots)
-
-empty_parts : (a b : List Variation) → a ++ b ≡ [] → (a ≡ []) × (b ≡ [])
-empty_parts [] b h = (refl, h)
-empty_parts (v ∷ a) b h = absurd cc
+slot_alike key base slots s slot same = gathered_alike (λ (v : Variation). same_key key (key_written v.write)) (of_slot base) slots s slot None same
 
 -- one slot has all of the key
 slot_alone : (key : Key) (base : ℕ) (slots : List (Option Open)) (s : ℕ) (slot : Option Open) → s < length slots
     → slots_at key base (set slots s None) ≡ [] → slots_at key base (set slots s slot) ≡ of_key key (of_slot base slot)
-slot_alone key base [] s slot within none = absurd (omega (arith, within))
-slot_alone key base (z ∷ slots) zero slot within none =
-    slots_first key base slot slots ∙ ap (λ l. of_key key (of_slot base slot) ++ l) none ∙ append-nil (of_key key (of_slot base slot))
-slot_alone key base (z ∷ slots) (suc s) slot within none =
-    let parts = empty_parts (of_key key (of_slot base z)) (slots_at key base (set slots s None)) (sym (slots_first key base z (set slots s None)) ∙ none) in
-    slots_first key base z (set slots s slot)
-    ∙ ap (λ l. l ++ slots_at key base (set slots s slot)) parts.0
-    ∙ slot_alone key base slots s slot (omega (arith, within)) parts.1
+slot_alone key base slots s slot within none = gathered_alone (λ (v : Variation). same_key key (key_written v.write)) (of_slot base) slots s slot None within none
 
-open_within : (slots : List (Option Open)) (s : ℕ) (x : Open) → get_or slots s None ≡ Some x → s < length slots
+pub open_within : (slots : List (Option Open)) (s : ℕ) (x : Open) → get_or slots s None ≡ Some x → s < length slots
 open_within slots s x at = elim (cases_lt s (length slots)) [
   | inl lt ↦ lt
   | inr le ↦ absurd (none-some x (sym (get_or_past slots s None le) ∙ at))
@@ -202,6 +186,15 @@ entry_variations base place committed x =
           ∙ map-map (of_ended base) (λ (w : Write). record { place = place; number = x.number; committed = committed; write = w }) x.writes
     ] refl
 
+-- no other one has written a key that a transaction wrote
+pub alone_where_written : (m : Machine) (s : ℕ) (x : Open) (key : Key) → IsKept m → open_of m s ≡ Some x → has_write_of key x.writes ≡ true
+    → slots_at key m.base (set m.active s None) ≡ []
+alone_where_written m s x key k at wrote = nobody_has key m.base (set m.active s None) (λ t y bt has.
+    elim (slot_cases m.active s t None y bt) [
+      | inl p ↦ none-some y p.1
+      | inr p ↦ k.own_keys.apart s t x y key p.0 at p.1 wrote has
+    ])
+
 -- the open writes of a transaction are in front of those of the others
 moved : (m : Machine) (s : ℕ) (x : Open) (key : Key) → IsKept m → open_of m s ≡ Some x
     → of_key key (of_slot m.base (Some x)) ++ slots_at key m.base (set m.active s None) ≡ slots_at key m.base m.active
@@ -209,11 +202,7 @@ moved m s x key k at =
     let own = of_key key (of_slot m.base (Some x)) in
     elim (has_write_of key x.writes) as (λ b. has_write_of key x.writes ≡ b → own ++ slots_at key m.base (set m.active s None) ≡ slots_at key m.base m.active) [
       | true ↦ λ e.
-          let none : slots_at key m.base (set m.active s None) ≡ [] = nobody_has key m.base (set m.active s None) (λ t y bt has.
-          elim (slot_cases m.active s t None y bt) [
-            | inl p ↦ none-some y p.1
-            | inr p ↦ k.own_keys.apart s t x y key p.0 at p.1 e has
-          ]) in
+          let none = alone_where_written m s x key k at e in
           ap (λ l. own ++ l) none ∙ append-nil own ∙ sym (held_alone key m.base m.active s x at none)
       | false ↦ λ e.
           let nothing : own ≡ [] = none_at key (Some (m.base + x.number)) x.writes e in
