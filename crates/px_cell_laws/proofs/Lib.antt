@@ -12,4 +12,11 @@ pub mod Showing
 pub mod Sweeping
 pub mod Covering
 pub mod Swept
+pub mod Locating
+pub mod Due
+pub mod Noting
+pub mod OneRow
+pub mod Placing
+pub mod Closing
+pub mod Passing
 pub mod Small

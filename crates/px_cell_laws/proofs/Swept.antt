@@ -115,7 +115,7 @@ cut_gone m store w t row from count c =
     ∙ ap (λ (i : ℕ). take i (drop (length c.before) (c.before ++ (c.gone ++ c.behind)))) c.many
     ∙ gone_part c.before c.gone c.behind
 
-sweep_changes : (m : Machine) (store : Store) (w : Flat) (t row place from count : ℕ) → HoldsChains m store → IsSweptAt m store w t row place
+pub sweep_changes : (m : Machine) (store : Store) (w : Flat) (t row place from count : ℕ) → HoldsChains m store → IsSweptAt m store w t row place
     → IsCut m store w t row from count → 1 ≤ count
     → let next = after_unlink store t row from count in
     IsChanged (chains_of store.tables store.layouts) (chains_of next.tables next.layouts) t row (key_of (store.tables t) row)

@@ -57,11 +57,17 @@ put_follows m store session call t header slot h k v = record {
   link = v.link;
 }
 
-put_changes : (m : Machine) (store : Store) (session : ℕ) (call : Call) (t : ℕ) (header : Header) (slot : Slot) → HoldsChains m store → IsWriteBy m store session call t header slot
+pub put_changes : (m : Machine) (store : Store) (session : ℕ) (call : Call) (t : ℕ) (header : Header) (slot : Slot) → HoldsChains m store → IsWriteBy m store session call t header slot
     → let next = after_put store t header slot in
     IsChanged (chains_of store.tables store.layouts) (chains_of next.tables next.layouts) t slot.row slot.key (slot ∷ versions_of store t slot.row)
 put_changes m store session call t header slot h v =
     link_changes m.short store.tables store.layouts t header slot (layout_linked (store.tables t) (store.layouts t) slot) h.sound v.stored
+    (link_of m.short (store.tables t) (store.layouts t) header slot (h.sound t) v.link)
+
+pub put_sound : (m : Machine) (store : Store) (session : ℕ) (call : Call) (t : ℕ) (header : Header) (slot : Slot) → HoldsChains m store → IsWriteBy m store session call t header slot
+    → let next = after_put store t header slot in AreSound m.short next.tables next.layouts
+put_sound m store session call t header slot h v =
+    link_stays_sound m.short store.tables store.layouts t header slot (layout_linked (store.tables t) (store.layouts t) slot) h.sound v.stored
     (link_of m.short (store.tables t) (store.layouts t) header slot (h.sound t) v.link)
 
 -- the versions in the slot's row are the chain of its key, also where the slot begins the row
@@ -98,6 +104,13 @@ nobody_else m s (DeleteCall table key) x w at writes done =
     (free m s x (table, key) (no_conflict _ _ false _ _ _ (answered _ _ x at done)))
 nobody_else m s Commit x w at writes done = absurd (none-some w writes)
 nobody_else m s Rollback x w at writes done = absurd (none-some w writes)
+
+-- no other open transaction has written the slot's key
+pub its_key_is_free : (m : Machine) (store : Store) (session : ℕ) (call : Call) (t : ℕ) (header : Header) (slot : Slot) → IsWriteBy m store session call t header slot
+    → open_writer (t, slot.key) (set m.active session None) ≡ None
+its_key_is_free m store session call t header slot v =
+    subst (λ (q : Key). open_writer q (set m.active session None) ≡ None) (key_of_write t slot)
+    (nobody_else m session call v.xact (write_of t slot) v.is_open v.write v.answered)
 
 -- the variation is of the opening, of this transaction, or of one that ended
 abbrev IsOwnOrEnded : Machine → (own : ℕ) → Variation → Type 0
@@ -151,9 +164,7 @@ pub put_alone : (m : Machine) (store : Store) (session : ℕ) (call : Call) (t :
 put_alone m store session call t header slot h k v other its differ =
     let own = m.base + v.xact.number in
     let key : Key = (t, slot.key) in
-    let nobody : open_writer key (set m.active session None) ≡ None =
-    subst (λ (q : Key). open_writer q (set m.active session None) ≡ None) (key_of_write t slot)
-    (nobody_else m session call v.xact (write_of t slot) v.is_open v.write v.answered) in
+    let nobody = its_key_is_free m store session call t header slot v in
     let P : Variation → Type 0 = IsOwnOrEnded m own in
     let all : All P (map (variation_in m.base t) (versions_of store t slot.row)) =
     All-same P (map (variation_in m.base t) (versions_of store t slot.row)) (reverse (chain m key)) (sym (versions_before m store session call t header slot h v))
@@ -211,9 +222,7 @@ put_holds m store session call t header slot h k v =
     let ended = calls_keep_ended m session call (writes_end_nothing call (write_of t slot) v.write) in
     let one = k.numbered.open_ones.from_one session v.xact v.is_open in
     let number = v.number in
-    let sound : AreSound m.short next.tables next.layouts =
-    link_stays_sound m.short store.tables store.layouts t header slot (layout_linked (store.tables t) (store.layouts t) slot) h.sound v.stored
-    (link_of m.short (store.tables t) (store.layouts t) header slot (h.sound t) v.link) in
+    let sound = put_sound m store session call t header slot h v in
     let P : ℕ → Type 0 = λ xn. xn ≤ m.base → store.done xn ≡ true in
     record {
       sound = subst (λ (short : ℕ). AreSound short next.tables next.layouts) (sym keeps.short) sound;

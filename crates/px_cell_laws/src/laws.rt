@@ -1,4 +1,4 @@
-ghost use Rattle.std.specs.Prelude.{◌≡◌, ◌≢◌, ◌<◌, ◌≤◌, ◌+◌, ◌-◌, ℕ, List, [], ◌∷◌, All, None, Some, false, map, option_map, reverse, slice_get, true};
+ghost use Rattle.std.specs.Prelude.{◌≡◌, ◌≢◌, ◌<◌, ◌≤◌, ◌+◌, ◌-◌, Bool, Contains, ℕ, List, [], ◌∷◌, All, None, Some, false, map, option_map, reverse, slice_get, true};
 ghost use Rattle.px_calls.specs.Steps.{is_refusal, open_of, reply_of, state_after};
 ghost use Rattle.px_calls.specs.declared.call.Call.{Call};
 ghost use Rattle.px_calls.specs.declared.call.Call.TheVariants.{Commit, Rollback};
@@ -24,9 +24,12 @@ ghost use Rattle.px_shown.specs.Example.{row_with};
 ghost use Rattle.px_shown.specs.Shown.{Shows, write_of};
 ghost use Rattle.px_shown.specs.Tables.{AreSound};
 ghost use Rattle.px_tables.specs.Linking.{FitsSlot, version_of};
+ghost use Rattle.px_xacts.specs.Transactions as xacts;
 ghost use Rattle.px_xacts.specs.Transactions.{Transactions};
+ghost use Rattle.px_xacts.specs.declared.answers.Due.{Due};
 ghost use Rattle.px_xacts_laws.specs.Mirrors.{Mirrors};
 ghost use Rattle.px_cell_laws.specs.Holding.{HoldsChains, variation_in};
+ghost use Rattle.px_cell_laws.specs.Locating.{AreWrittenAt, without_first, write_at};
 ghost use Rattle.px_cell_laws.specs.Reading.{slot_seen};
 ghost use Rattle.px_cell_laws.specs.Sweeping.{IsSweptAt, sweep_count_of, sweep_of};
 ghost use Rattle.px_cell_laws.specs.Worked.{begun, body, committed, new_machine, one_row, one_version, written};
@@ -131,6 +134,45 @@ pub fn a_sweep_is_an_unlink()
         → IsSweptAt m store w t row place → sweep_count_of store w t row place ≡ 0 → HoldsChains (swept_state m) store }
     ensures few { (m : Machine) (store : Store) (w : Flat) (t row place : ℕ) → IsSweptAt m store w t row place
         → sweep_count_of store w t row place ≤ 2 }
+{}
+
+/// Each unswept write names its row pointer and its slot: the chain of a row begins with the slots of the unswept writes of its
+/// key, the newest first. So it is at an opening, and so it stays with each call and each sweep, where a write is kept with the
+/// place at which its version is linked.
+pub fn unswept_writes_name_their_slots()
+    ensures opening { (base : ℕ) (store : Store) → AreWrittenAt (xacts.fresh base) store }
+    ensures begin { (all : Transactions) (store : Store) (session frames : ℕ) → AreWrittenAt all store
+        → AreWrittenAt (xacts.after_begin all session frames) store }
+    ensures write { (m : Machine) (all : Transactions) (store : Store) (session : ℕ) (call : Call) (t : ℕ) (header : Header) (slot : Slot)
+        → Mirrors m all → HoldsChains m store → AreWrittenAt all store → IsWriteBy m store session call t header slot
+        → AreWrittenAt (xacts.with_write all session (write_at store t slot)) (after_step store (Step.put t header slot)) }
+    ensures end { (m : Machine) (all : Transactions) (store : Store) (session : ℕ) (committed : Bool) (xact : Open)
+        → Mirrors m all → IsKept m → open_of m session ≡ Some xact → AreWrittenAt all store
+        → AreWrittenAt (xacts.ended all session committed) store }
+    ensures commit { (all : Transactions) (store : Store) (xn number : ℕ) → AreWrittenAt all store
+        → AreWrittenAt all (after_step store (Step.commit xn number)) }
+    ensures rollback { (all : Transactions) (store : Store) (xn : ℕ) → AreWrittenAt all store
+        → AreWrittenAt all (after_step store (Step.rollback xn)) }
+    ensures sweep { (m : Machine) (all : Transactions) (store : Store) (w : Flat) (t row place : ℕ)
+        → Mirrors m all → HoldsChains m store → IsKept m → AreWrittenAt all store
+        → IsSweptAt m store w t row place → 1 ≤ sweep_count_of store w t row place
+        → AreWrittenAt (without_first all) (after_step store (sweep_of store w t row place)) }
+    ensures nothing { (m : Machine) (all : Transactions) (store : Store) (w : Flat) (t row place : ℕ)
+        → Mirrors m all → HoldsChains m store → AreWrittenAt all store
+        → IsSweptAt m store w t row place → AreWrittenAt (without_first all) store }
+{}
+
+/// What is due names the version that is swept next: its slot stands in the chain of its row pointer, and the place at which it
+/// is found there is the version's. Whose write it is, and whether that committed, is as the
+/// machine has it.
+pub fn what_is_due_is_found_in_its_row()
+    ensures there { (m : Machine) (all : Transactions) (store : Store) (due : Due)
+        → Mirrors m all → HoldsChains m store → AreWrittenAt all store → xacts.due all ≡ Some due
+        → IsUsedRow (store.tables due.table) due.row × Contains ((store.layouts due.table).chain due.row) due.slot }
+    ensures swept { (m : Machine) (all : Transactions) (store : Store) (due : Due) (place : ℕ)
+        → Mirrors m all → HoldsChains m store → AreWrittenAt all store → xacts.due all ≡ Some due
+        → slice_get ((store.layouts due.table).chain due.row) place ≡ Some due.slot
+        → (w : Flat) × IsSweptAt m store w due.table due.row place × (w.number ≡ due.number) × (w.committed ≡ due.committed) }
 {}
 
 /// The cells show the rows that are committed now.

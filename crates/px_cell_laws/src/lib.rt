@@ -6,10 +6,11 @@
 //! two, or with none. Nothing here runs.
 //!
 //! - `laws`: a tidied store holds a fresh machine's chains; each call and its step keep this, as does each sweep and its unlink;
-//!   the committed rows are shown, and a reader sees its view in the cells.
+//!   the transactions know where their unswept writes stand; the committed rows are shown, and a reader sees its view in the cells.
 //!
 //! `specs/Holding` says when cells hold the chains, `specs/Writing` which version a call writes, `specs/Sweeping` where the version
-//! stands that is swept next and which ones go with it, `specs/Reading` what a reader sees.
+//! stands that is swept next and which ones go with it, `specs/Locating` where the transactions' writes stand, `specs/Reading` what
+//! a reader sees.
 #![tactic(auto)]
 
 mod laws;

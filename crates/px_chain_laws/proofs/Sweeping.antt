@@ -34,7 +34,7 @@ unfolding swept_state
 idle_stays m idle =
     ap (λ (r : Reply). record m { swept = m.swept + counts_sweep r }) idle ∙ ap (λ (n : ℕ). record m { swept = n }) (omega arith)
 
-dropped : (m : Machine) (w : Flat) → slice_get (flat m) m.swept ≡ Some w → drop m.swept (flat m) ≡ w ∷ drop (m.swept + 1) (flat m)
+pub dropped : (m : Machine) (w : Flat) → slice_get (flat m) m.swept ≡ Some w → drop m.swept (flat m) ≡ w ∷ drop (m.swept + 1) (flat m)
 dropped m w at =
     drop_more (flat m) m.swept w (slice_get_within (flat m) m.swept w at)
     ∙ ap (λ f. f ∷ drop (m.swept + 1) (flat m)) (get_or_from_slice_get (flat m) m.swept w w at)
