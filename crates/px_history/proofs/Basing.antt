@@ -19,11 +19,12 @@ use Rattle.px_history.specs.Told.{Agrees, told_by}
 use Rattle.px_told.specs.Changes.{AreUntoldFrom, IsUntold}
 use Rattle.px_told.proofs.Rows.{no_changes}
 use Rattle.px_history.proofs.Agreeing.{IsNotOf, history_agrees, untold_none, untold_open}
+use Rattle.px_shown.specs.Parts.{Parts}
 
-pub nothing_is_base : (short : ℕ) → IsBase short 0 [] nothing
-nothing_is_base short = record {
+pub nothing_is_base : (parts : Parts) (short : ℕ) → IsBase parts short 0 [] nothing
+nothing_is_base parts short = record {
   sound = no_cells_sound short nothing.tables (λ t. refl);
-  shows = none_shown nothing.tables nothing.layouts nothing.done (λ t. refl);
+  shows = none_shown parts nothing.tables nothing.layouts nothing.done (λ t. refl);
   numbers = λ t row used. absurd (omega (arith, used.0.0, used.0.1));
   ended = λ xn less. absurd (omega (arith, less));
   later = λ xn more. record { undone = refl; not_over = refl };
@@ -37,28 +38,28 @@ not_below xn next more = false_from_ne_true (nat_lt xn next) (λ is. let less = 
 
 -- ---- after a crash or an end
 
-all_below : (short next last : ℕ) (rows : List Row) (base : Store) (changes : List Change) (store : Store) (t row : ℕ) → Agrees short next rows base changes store
+all_below : (parts : Parts) (short next last : ℕ) (rows : List Row) (base : Store) (changes : List Change) (store : Store) (t row : ℕ) → Agrees parts short next rows base changes store
     → next ≤ last → AreUntoldFrom last changes → IsUsedRow (store.tables t) row → All (IsBelow last) (versions_of store t row)
-all_below short next last rows base changes store t row a from untold used =
+all_below parts short next last rows base changes store t row a from untold used =
     let slots = versions_of store t row in
     all_from (IsBelow last) slots (λ slot there. ⊎_elim
     (λ (less : slot.xn < last). less)
     (λ (more : last ≤ slot.xn).
-    let none = untold_none short next rows base changes store slot.xn t row a (omega (arith, from, more)) (untold slot.xn more) used in
+    let none = untold_none parts short next rows base changes store slot.xn t row a (omega (arith, from, more)) (untold slot.xn more) used in
     absurd (eqb-false slot.xn slot.xn (All-contains (IsNotOf slot.xn) slots slot none there) refl))
     (cases_lt slot.xn last))
 
-pub crashed_is_base : (short next last : ℕ) (rows : List Row) (base store : Store) (steps : List Step) → IsBase short next rows base → History short base steps store
-    → next ≤ last → AreUntoldFrom last (told_by steps) → IsBase short last (rows_over rows (told_by steps)) (ended_before last store)
-crashed_is_base short next last rows base store steps b h from untold =
-    let a = history_agrees short next rows base store steps b h in
+pub crashed_is_base : (parts : Parts) (short next last : ℕ) (rows : List Row) (base store : Store) (steps : List Step) → IsBase parts short next rows base → History parts short base steps store
+    → next ≤ last → AreUntoldFrom last (told_by parts steps) → IsBase parts short last (rows_over rows (told_by parts steps)) (ended_before last store)
+crashed_is_base parts short next last rows base store steps b h from untold =
+    let a = history_agrees parts short next rows base store steps b h in
     record {
       sound = a.sound;
       shows = a.shows;
-      numbers = λ t row used. all_below short next last rows base (told_by steps) store t row a from untold used;
+      numbers = λ t row used. all_below parts short next last rows base (told_by parts steps) store t row a from untold used;
       ended = λ xn less. ap (λ (lower : Bool). lower && not (store.done xn)) (lt-ltb xn last less);
       later = λ xn more. record {
-        undone = (untold_open short next rows base (told_by steps) store xn a (omega (arith, from, more)) (untold xn more)).undone;
+        undone = (untold_open parts short next rows base (told_by parts steps) store xn a (omega (arith, from, more)) (untold xn more)).undone;
         not_over = ap (λ (lower : Bool). lower && not (store.done xn)) (not_below xn last more);
       };
     }
@@ -73,24 +74,24 @@ done_or_over store xn not_over shut = ⊎_elim
     (cases_Bool (store.over xn)))
     (cases_Bool (store.done xn))
 
-pub closed_is_base : (short next last : ℕ) (rows : List Row) (base store : Store) (steps : List Step) → IsBase short next rows base → History short base steps store
-    → next ≤ last → AreUntoldFrom last (told_by steps) → ((xn : ℕ) → IsOpen store xn → last ≤ xn) → IsBase short last (rows_over rows (told_by steps)) store
-closed_is_base short next last rows base store steps b h from untold past =
-    let a = history_agrees short next rows base store steps b h in
+pub closed_is_base : (parts : Parts) (short next last : ℕ) (rows : List Row) (base store : Store) (steps : List Step) → IsBase parts short next rows base → History parts short base steps store
+    → next ≤ last → AreUntoldFrom last (told_by parts steps) → ((xn : ℕ) → IsOpen store xn → last ≤ xn) → IsBase parts short last (rows_over rows (told_by parts steps)) store
+closed_is_base parts short next last rows base store steps b h from untold past =
+    let a = history_agrees parts short next rows base store steps b h in
     record {
       sound = a.sound;
       shows = a.shows;
-      numbers = λ t row used. all_below short next last rows base (told_by steps) store t row a from untold used;
+      numbers = λ t row used. all_below parts short next last rows base (told_by parts steps) store t row a from untold used;
       ended = λ xn less. done_or_over store xn (a.not_over xn) (λ its. let more = past xn its in omega (arith, less, more));
-      later = λ xn more. untold_open short next rows base (told_by steps) store xn a (omega (arith, from, more)) (untold xn more);
+      later = λ xn more. untold_open parts short next rows base (told_by parts steps) store xn a (omega (arith, from, more)) (untold xn more);
     }
 
 -- ---- what is tidied
 
-pub tidied_is_base : (short next : ℕ) (rows : List Row) (base : Store) → IsBase short next rows base → IsTidied base → IsBase short next rows (done_before next base)
-tidied_is_base short next rows base b tidy = record {
+pub tidied_is_base : (parts : Parts) (short next : ℕ) (rows : List Row) (base : Store) → IsBase parts short next rows base → IsTidied base → IsBase parts short next rows (done_before next base)
+tidied_is_base parts short next rows base b tidy = record {
   sound = b.sound;
-  shows = alike_shown base.tables base.layouts base.done (done_before next base).done rows (λ t row used.
+  shows = alike_shown parts base.tables base.layouts base.done (done_before next base).done rows (λ t row used.
       let one = tidy.each t row used in
       let below = All-head (IsBelow next) one.slot [] (subst (λ (l : List Slot). All (IsBelow next) l) one.alone (b.numbers t row used)) in
       let Alike : Slot → Type 0 = λ slot. base.done slot.xn ≡ nat_lt slot.xn next in
@@ -103,19 +104,20 @@ tidied_is_base short next rows base b tidy = record {
 
 -- ---- unlinks
 
-pub unlinks_tell : (steps : List Step) → All IsUnlink steps → told_by steps ≡ []
-unlinks_tell [] all = refl
-unlinks_tell (Step.put t header slot ∷ steps) all = absurd (All-head IsUnlink (Step.put t header slot) steps all)
-unlinks_tell (Step.commit xn number ∷ steps) all = absurd (All-head IsUnlink (Step.commit xn number) steps all)
-unlinks_tell (Step.rollback xn ∷ steps) all = absurd (All-head IsUnlink (Step.rollback xn) steps all)
-unlinks_tell (Step.unlink t row from count ∷ steps) all = unlinks_tell steps (All-tail IsUnlink (Step.unlink t row from count) steps all)
+pub unlinks_tell : (parts : Parts) (steps : List Step) → All IsUnlink steps → told_by parts steps ≡ []
+unlinks_tell parts [] all = refl
+unlinks_tell parts (Step.put t header slot ∷ steps) all = absurd (All-head IsUnlink (Step.put t header slot) steps all)
+unlinks_tell parts (Step.commit xn number ∷ steps) all = absurd (All-head IsUnlink (Step.commit xn number) steps all)
+unlinks_tell parts (Step.rollback xn ∷ steps) all = absurd (All-head IsUnlink (Step.rollback xn) steps all)
+unlinks_tell parts (Step.unlink t row from count ∷ steps) all = unlinks_tell parts steps (All-tail IsUnlink (Step.unlink t row from count) steps all)
+unlinks_tell parts (Step.move t number log place ∷ steps) all = absurd (All-head IsUnlink (Step.move t number log place) steps all)
 
 none_told : (last : ℕ) (changes : List Change) → changes ≡ [] → AreUntoldFrom last changes
 none_told last changes none xn more = subst (IsUntold xn) (sym none) (All-nil (λ (change : Change). stored_number change ≢ xn))
 
-pub unlinked_is_base : (short next : ℕ) (rows : List Row) (base store : Store) (steps : List Step) → IsBase short next rows base → History short base steps store
-    → All IsUnlink steps → IsBase short next rows store
-unlinked_is_base short next rows base store steps b h all =
-    let none = unlinks_tell steps all in
-    subst (λ (l : List Row). IsBase short next l store) (ap (rows_over rows) none ∙ no_changes rows)
-    (closed_is_base short next next rows base store steps b h (omega arith) (none_told next (told_by steps) none) (history_agrees short next rows base store steps b h).later)
+pub unlinked_is_base : (parts : Parts) (short next : ℕ) (rows : List Row) (base store : Store) (steps : List Step) → IsBase parts short next rows base → History parts short base steps store
+    → All IsUnlink steps → IsBase parts short next rows store
+unlinked_is_base parts short next rows base store steps b h all =
+    let none = unlinks_tell parts steps all in
+    subst (λ (l : List Row). IsBase parts short next l store) (ap (rows_over rows) none ∙ no_changes rows)
+    (closed_is_base parts short next next rows base store steps b h (omega arith) (none_told next (told_by parts steps) none) (history_agrees parts short next rows base store steps b h).later)

@@ -1,5 +1,5 @@
 -- The change of a step that fits may stand in a frame of the log.
-use Rattle.std.proofs.Common.{◌≡◌, ℕ, ◌+◌, ◌^◌, ◌<◌, ◌≤◌, ◌==◌, ◌||◌, ◌&&◌, Bool, cond, true, false, List, [], ◌∷◌, ◌++◌, map, drop, length, refl, arith, ⊎_elim}
+use Rattle.std.proofs.Common.{◌≡◌, ℕ, ◌+◌, ◌^◌, ◌<◌, ◌≤◌, ◌==◌, ◌||◌, ◌&&◌, Bool, cond, true, false, List, [], ◌∷◌, ◌++◌, map, drop, length, refl, sym, ap, subst, ◌∙◌, arith, ⊎_elim}
 use Rattle.std.specs.Prelude.{All, Contains, nat_le, nat_lt, ◌⊎◌}
 use Rattle.std.specs.List.{list_all}
 use Rattle.std.proofs.lemmas.Bool.{and_from, or_left, eq-eqb, le-leb, lt-ltb}
@@ -22,7 +22,7 @@ use Rattle.px_chain.proofs.Forms.{IsFormed, IsLinkStored, all_in_order, all_unli
 use Rattle.px_chain.proofs.Orders.{cells_counted, part_rises}
 use Rattle.px_chain.proofs.SoundLink.{row_begun, row_varied}
 use Rattle.px_chain.proofs.Walks.{all_from, contains_first}
-use Rattle.px_change.specs.Grammar.{has_cells, has_commit, is_before, is_cell, is_change, is_due, is_number, is_of_tables, is_size, is_stored, is_table, may_hold, rise, rise_behind}
+use Rattle.px_change.specs.Grammar.{has_cells, has_commit, is_before, is_cell, is_change, is_due, is_number, is_of_tables, is_size, is_stored, is_table, is_unlinking, may_hold, rise, rise_behind}
 use Rattle.px_change.specs.Text.{cell_code}
 use Rattle.px_change.specs.declared.change.Change.{Change}
 use Rattle.px_change.specs.declared.limits.TheConstants.{LEAST_UNLINKING, MOST_CELLS}
@@ -33,10 +33,14 @@ use Rattle.px_model.specs.declared.limits.TheConstants.{MOST_TABLES, STORED_NUMB
 use Rattle.px_shown.specs.Changes.{taken_slot}
 use Rattle.px_shown.specs.Tables.{AreSound}
 use Rattle.px_shown.proofs.Rows.{chained}
-use Rattle.px_history.specs.Fitting.{FitsFrame, IsStoredNumber, PlacesFit}
+use Rattle.px_history.specs.Fitting.{FitsFrame, HasRoomFor, IsStoredNumber, IsTable, IsWritten, MoveFits, PlacesFit, PutFits}
 use Rattle.px_history.specs.Store.{Store}
 use Rattle.px_history.specs.Steps.{IsStep, MayPut, MayUnlink, Step}
-use Rattle.px_history.specs.Written.{change_of}
+use Rattle.px_history.specs.Written.{IsChangeOf, IsMarkOf, change_of}
+use Rattle.px_shown.specs.Moves.{MayMove, moved_slot}
+use Rattle.px_change.specs.declared.change.ChangeKind.{ChangeKind}
+use Rattle.px_change.specs.declared.change.ChangeKind.TheVariants as changes
+use Rattle.px_shown.specs.Parts.{Parts}
 
 -- ---- a cell
 
@@ -45,24 +49,24 @@ abbrev IsHeld : (short tables : ℕ) → Cell → Type 0
 IsHeld short tables cell = (is_cell short cell ≡ true) × (is_of_tables tables cell ≡ true)
 
 -- the table of the cells is one of the store
-record IsTable (tables t : ℕ) : Type 0 where
+record IsOfStore (tables t : ℕ) : Type 0 where
   pub its : is_table t ≡ true
   pub within : nat_le t tables ≡ true
 
-its_table : (tables t : ℕ) (header : Header) → tables ≤ MOST_TABLES → PlacesFit tables t header → IsTable tables t
-its_table tables t header few fits = record {
-  its = and_from (nat_le 1 t) (nat_le t MOST_TABLES) (le-leb 1 t fits.some) (le-leb t MOST_TABLES (let w = fits.within in omega (arith, few, w)));
-  within = le-leb t tables fits.within;
+its_table : (tables t : ℕ) → tables ≤ MOST_TABLES → IsTable tables t → IsOfStore tables t
+its_table tables t few is = record {
+  its = and_from (nat_le 1 t) (nat_le t MOST_TABLES) (le-leb 1 t is.0) (le-leb t MOST_TABLES (let w = is.1 in omega (arith, few, w)));
+  within = le-leb t tables is.1;
 }
 
 numbered : (n : ℕ) → 1 ≤ n → n < 2 ^ 32 → (nat_le 1 n && nat_lt n (2 ^ 32)) ≡ true
 numbered n some small = and_from (nat_le 1 n) (nat_lt n (2 ^ 32)) (le-leb 1 n some) (lt-ltb n (2 ^ 32) small)
 
-header_held : (short tables t : ℕ) (header : Header) → IsTable tables t → IsHeld short tables (header_cell t header)
+header_held : (short tables t : ℕ) (header : Header) → IsOfStore tables t → IsHeld short tables (header_cell t header)
 header_held short tables t header table =
     (and_from (is_table t) (is_size short kind.Header (length (header_text header))) table.its (eq-eqb (length (header_text header)) HEADER_SIZE (length-header header)), table.within)
 
-slot_held : (short tables t n : ℕ) (slot : Slot) → is_short short ≡ true → IsTable tables t → IsFormed short (record { number = n; slot = slot }) → 1 ≤ n → n < 2 ^ 32
+slot_held : (short tables t n : ℕ) (slot : Slot) → is_short short ≡ true → IsOfStore tables t → IsFormed short (record { number = n; slot = slot }) → 1 ≤ n → n < 2 ^ 32
     → IsHeld short tables (slot_cell t short n slot)
 slot_held short tables t n slot may table form some small =
     let lengths = form_lengths short slot form in
@@ -77,7 +81,7 @@ length-pointer : (pointer : Pointer) → length (pointer_text pointer) ≡ POINT
 unfolding pointer_text
 length-pointer pointer = refl
 
-pointer_held : (short tables t n : ℕ) (pointer : Pointer) → IsTable tables t → 1 ≤ n → n < 2 ^ 32 → IsHeld short tables (pointer_cell t n pointer)
+pointer_held : (short tables t n : ℕ) (pointer : Pointer) → IsOfStore tables t → 1 ≤ n → n < 2 ^ 32 → IsHeld short tables (pointer_cell t n pointer)
 pointer_held short tables t n pointer table some small = (
   and_from (is_table t) (is_number kind.Pointer n && is_size short kind.Pointer (length (pointer_text pointer))) table.its
       (and_from (is_number kind.Pointer n) (is_size short kind.Pointer (length (pointer_text pointer))) (numbered n some small)
@@ -132,10 +136,10 @@ places_put short table layout header slot sound its_form link = ⊎_elim
     link
 
 put_held : (short tables frame : ℕ) (store : Store) (t : ℕ) (header : Header) (slot : Slot) → is_short short ≡ true → tables ≤ MOST_TABLES → AreSound short store.tables store.layouts
-    → MayPut short store t header slot → IsStoredNumber slot.xn → PlacesFit tables t header → may_hold tables frame short (change_of short store (Step.put t header slot)) ≡ true
+    → MayPut short store t header slot → IsStoredNumber slot.xn → PutFits tables t header slot → may_hold tables frame short (change_of short store (Step.put t header slot)) ≡ true
 put_held short tables frame store t header slot may few sound step xn fits =
     let number = taken_slot (store.tables t) in
-    let table = its_table tables t header few fits in
+    let table = its_table tables t few fits.table in
     let p = places_put short (store.tables t) (store.layouts t) header slot (sound t) step.stored step.link in
     let head : Pointer = record { used = true; head = number } in
     let h = header_cell t header in
@@ -143,8 +147,8 @@ put_held short tables frame store t header slot may few sound step xn fits =
     let r = pointer_cell t slot.row head in
     let one = p.slot_within in
     let two = p.row_within in
-    let slots = fits.slots in
-    let rows = fits.rows in
+    let slots = fits.places.slots in
+    let rows = fits.places.rows in
     held tables frame short (change_of short store (Step.put t header slot)) (stored slot.xn xn) refl refl
     (All-cons (IsHeld short tables) h (s ∷ r ∷ []) (header_held short tables t header table)
     (All-cons (IsHeld short tables) s (r ∷ []) (slot_held short tables t number slot may table step.stored.form p.slot_some (omega (arith, one, slots)))
@@ -222,10 +226,16 @@ pointer_all P false n pointer is = All-nil P
 abbrev link_at : Table → ℕ → Linked
 link_at table n = record { number = n; slot = table.slot n }
 
-unlink_held : (short tables frame : ℕ) (store : Store) (t row from count : ℕ) → is_short short ≡ true → tables ≤ MOST_TABLES → AreSound short store.tables store.layouts
-    → MayUnlink store t row from count → FitsFrame tables frame store (Step.unlink t row from count)
-    → may_hold tables frame short (change_of short store (Step.unlink t row from count)) ≡ true
-unlink_held short tables frame store t row from count may few sound step fits =
+-- the cells may be those of a change that unlinks
+record AreUnlinking (short tables : ℕ) (cells : List Cell) : Type 0 where
+  pub many : is_unlinking cells ≡ true
+  pub each : All (IsHeld short tables) cells
+  pub up : rise cells ≡ true
+
+unlink_cells_held : (short tables : ℕ) (store : Store) (t row from count : ℕ) → is_short short ≡ true → tables ≤ MOST_TABLES → AreSound short store.tables store.layouts
+    → MayUnlink store t row from count → IsTable tables t → PlacesFit (store.tables t).header → HasRoomFor count
+    → AreUnlinking short tables (change_of short store (Step.unlink t row from count)).cells
+unlink_cells_held short tables store t row from count may few sound step is fits room =
     let table = store.tables t in
     let places = (store.layouts t).chain row in
     let chain = chain_of table places in
@@ -236,7 +246,7 @@ unlink_held short tables frame store t row from count may few sound step fits =
     let pointer : Pointer = cond (is_empty parts.behind) (record { used = false; head = table.header.free_row }) (record { used = true; head = first_or parts.behind 0 }) in
     let some = is_empty parts.before in
     let cells = unlink_cells table.header parts in
-    let ok = its_table tables t table.header few fits.1 in
+    let ok = its_table tables t few is in
     let variations : All (IsVariation table row) places = ((sound t).chains row step.used).variations in
     let variation : (n : ℕ) → Contains places n → IsVariation table row n = λ n there. All-contains (IsVariation table row) places n variations there in
     let forms = all_unlinked short table.header chain from count (All-map (IsLinkStored short) (link_at table) places
@@ -250,35 +260,82 @@ unlink_held short tables frame store t row from count may few sound step fits =
     let its_row : number ≡ row = first_row row parts.gone (All-take (IsOfRow row) count (drop from chain) (All-drop (IsOfRow row) from chain rows)) (let s = step.some in omega (arith, goes, s)) in
     let counted = cells_counted table.header chain from count within in
     let length_is = length-map cells (cell_of t short) in
-    let room = fits.2 in
     let least = step.some in
     let P : Content → Type 0 = λ content. IsHeld short tables (cell_of t short content) in
-    held tables frame short (change_of short store (Step.unlink t row from count)) (stored _ fits.0) refl
-    (and_from (nat_le LEAST_UNLINKING (length (map (cell_of t short) cells))) (nat_le (length (map (cell_of t short) cells)) MOST_CELLS)
-    (le-leb LEAST_UNLINKING (length (map (cell_of t short) cells)) (omega (arith, length_is, counted, least)))
-    (le-leb (length (map (cell_of t short) cells)) MOST_CELLS (omega (arith, length_is, counted, room))))
-    (All-map (IsHeld short tables) (cell_of t short) cells
-    (All-cons P (Content.header_is header) (map content_of slots ++ pointer_if some number pointer) (header_held short tables t header ok)
-    (All-append P (map content_of slots) (pointer_if some number pointer)
-    (All-map P content_of slots (all_from (λ (l : Linked). P (content_of l)) slots (λ l there.
-    let p = All-contains (IsNumbered (IsSlot table)) slots l numbers there in
-    let low = p.1 in
-    let high = fits.1.slots in
-    slot_held short tables t l.number l.slot may ok (All-contains (IsFormed short) slots l forms there) p.0 (omega (arith, low, high)))))
-    (pointer_all P some number pointer (let low = step.used.0 in let high = fits.1.rows in
-    pointer_held short tables t number pointer ok (omega (arith, its_row, low.0)) (omega (arith, its_row, low.1, high)))))))
-    (slots_rise t short (header_cell t header) slots some number pointer refl refl
-    (all_from (λ (l : Linked). is_before (header_cell t header) (linked_cell t short l) ≡ true) slots (λ l there. and_from (t == t) true (eq-eqb t t refl) refl))
-    (part_rises short table (store.layouts t) row from count (sound t)))
-    refl
+    record {
+      many = and_from (nat_le LEAST_UNLINKING (length (map (cell_of t short) cells))) (nat_le (length (map (cell_of t short) cells)) MOST_CELLS)
+          (le-leb LEAST_UNLINKING (length (map (cell_of t short) cells)) (omega (arith, length_is, counted, least)))
+          (le-leb (length (map (cell_of t short) cells)) MOST_CELLS (omega (arith, length_is, counted, room)));
+      each = All-map (IsHeld short tables) (cell_of t short) cells
+          (All-cons P (Content.header_is header) (map content_of slots ++ pointer_if some number pointer) (header_held short tables t header ok)
+          (All-append P (map content_of slots) (pointer_if some number pointer)
+          (All-map P content_of slots (all_from (λ (l : Linked). P (content_of l)) slots (λ l there.
+          let p = All-contains (IsNumbered (IsSlot table)) slots l numbers there in
+          let low = p.1 in
+          let high = fits.slots in
+          slot_held short tables t l.number l.slot may ok (All-contains (IsFormed short) slots l forms there) p.0 (omega (arith, low, high)))))
+          (pointer_all P some number pointer (let low = step.used.0 in let high = fits.rows in
+          pointer_held short tables t number pointer ok (omega (arith, its_row, low.0)) (omega (arith, its_row, low.1, high))))));
+      up = slots_rise t short (header_cell t header) slots some number pointer refl refl
+          (all_from (λ (l : Linked). is_before (header_cell t header) (linked_cell t short l) ≡ true) slots (λ l there. and_from (t == t) true (eq-eqb t t refl) refl))
+          (part_rises short table (store.layouts t) row from count (sound t));
+    }
 
-pub step_held : (short tables frame : ℕ) (store : Store) (step : Step) → is_short short ≡ true → tables ≤ MOST_TABLES → AreSound short store.tables store.layouts
-    → IsStep short store step → FitsFrame tables frame store step → may_hold tables frame short (change_of short store step) ≡ true
-step_held short tables frame store (Step.put t header slot) may few sound step fits = put_held short tables frame store t header slot may few sound step fits.0 fits.1
-step_held short tables frame store (Step.commit xn number) may few sound step fits =
-    held tables frame short (change_of short store (Step.commit xn number)) (stored xn fits.0)
-    (and_from (nat_le 1 number) (nat_lt number (2 ^ 64)) (le-leb 1 number fits.1.some) (lt-ltb number (2 ^ 64) fits.1.small)) refl (All-nil (IsHeld short tables)) refl
-    (le-leb number (frame + 1) fits.1.due)
-step_held short tables frame store (Step.rollback xn) may few sound step fits =
-    held tables frame short (change_of short store (Step.rollback xn)) (stored xn fits) refl refl (All-nil (IsHeld short tables)) refl refl
-step_held short tables frame store (Step.unlink t row from count) may few sound step fits = unlink_held short tables frame store t row from count may few sound step fits
+same_change : (change : Change) (k : ChangeKind) (commit : ℕ) (cells : List Cell) → change.kind ≡ k → change.commit ≡ commit → change.cells ≡ cells
+    → change ≡ record { kind = k; xn = change.xn; commit = commit; cells = cells }
+same_change change k commit cells its_kind its_commit its_cells =
+    ap (λ (x : ChangeKind). record change { kind = x }) its_kind
+    ∙ ap (λ (n : ℕ). record change { kind = k; commit = n }) its_commit
+    ∙ ap (λ (l : List Cell). record change { kind = k; commit = commit; cells = l }) its_cells
+
+-- an unlink's change, whether it is the opening's or the sweeper's
+unlink_held : (tables frame short : ℕ) (change : Change) (cells : List Cell) → IsStoredNumber change.xn → (change.kind ≡ changes.Tidy) ⊎ (change.kind ≡ changes.Sweep)
+    → change.cells ≡ cells → change.commit ≡ 0 → AreUnlinking short tables cells → may_hold tables frame short change ≡ true
+unlink_held tables frame short change cells xn marked its_cells its_commit are = ⊎_elim
+    (λ (tidy : change.kind ≡ changes.Tidy). subst (λ (c : Change). may_hold tables frame short c ≡ true) (sym (same_change change changes.Tidy 0 cells tidy its_commit its_cells))
+    (held tables frame short (record { kind = changes.Tidy; xn = change.xn; commit = 0; cells = cells }) (stored change.xn xn) refl are.many are.each are.up refl))
+    (λ (sweep : change.kind ≡ changes.Sweep). subst (λ (c : Change). may_hold tables frame short c ≡ true) (sym (same_change change changes.Sweep 0 cells sweep its_commit its_cells))
+    (held tables frame short (record { kind = changes.Sweep; xn = change.xn; commit = 0; cells = cells }) (stored change.xn xn) refl are.many are.each are.up refl))
+    marked
+
+-- ---- a move
+
+move_held : (logs : Parts) (short tables frame : ℕ) (store : Store) (t number log place : ℕ) → is_short short ≡ true → tables ≤ MOST_TABLES → AreSound short store.tables store.layouts
+    → MayMove logs short store.tables store.layouts t number log place → IsStoredNumber ((store.tables t).slot number).xn → MoveFits tables t number log place
+    → may_hold tables frame short (change_of short store (Step.move t number log place)) ≡ true
+move_held logs short tables frame store t number log place may few sound step xn fits =
+    let slot = moved_slot ((store.tables t).slot number) log place in
+    let cell = slot_cell t short number slot in
+    let there = chained short (store.tables t) (store.layouts t) step.row number (sound t) step.linked in
+    held tables frame short (change_of short store (Step.move t number log place)) (stored slot.xn xn) refl refl
+    (All-cons (IsHeld short tables) cell [] (slot_held short tables t number slot may (its_table tables t few fits.table) step.stored.form there.1.place.0 fits.its_slot)
+    (All-nil (IsHeld short tables))) refl refl
+
+-- ---- all of them
+
+step_held : (logs : Parts) (short tables frame : ℕ) (store : Store) (step : Step) (change : Change) → is_short short ≡ true → tables ≤ MOST_TABLES → AreSound short store.tables store.layouts
+    → IsStep logs short store step → IsMarkOf step short store change → change.cells ≡ (change_of short store step).cells → change.commit ≡ (change_of short store step).commit
+    → IsStoredNumber change.xn → IsWritten tables step → FitsFrame frame store step → may_hold tables frame short change ≡ true
+step_held logs short tables frame store (Step.put t header slot) change may few sound step mark cells commit xn written fits =
+    subst (λ (c : Change). may_hold tables frame short c ≡ true) (sym mark)
+    (put_held short tables frame store t header slot may few sound step (subst (λ (c : Change). IsStoredNumber c.xn) mark xn) written)
+step_held logs short tables frame store (Step.commit by number) change may few sound step mark cells commit xn written fits =
+    subst (λ (c : Change). may_hold tables frame short c ≡ true) (sym mark)
+    (held tables frame short (change_of short store (Step.commit by number)) (stored by (subst (λ (c : Change). IsStoredNumber c.xn) mark xn))
+    (and_from (nat_le 1 number) (nat_lt number (2 ^ 64)) (le-leb 1 number fits.some) (lt-ltb number (2 ^ 64) fits.small)) refl (All-nil (IsHeld short tables)) refl
+    (le-leb number (frame + 1) fits.due))
+step_held logs short tables frame store (Step.rollback by) change may few sound step mark cells commit xn written fits =
+    subst (λ (c : Change). may_hold tables frame short c ≡ true) (sym mark)
+    (held tables frame short (change_of short store (Step.rollback by)) (stored by (subst (λ (c : Change). IsStoredNumber c.xn) mark xn)) refl refl (All-nil (IsHeld short tables)) refl refl)
+step_held logs short tables frame store (Step.unlink t row from count) change may few sound step mark cells commit xn written fits =
+    unlink_held tables frame short change (change_of short store (Step.unlink t row from count)).cells xn mark cells commit
+    (unlink_cells_held short tables store t row from count may few sound step written fits.0 fits.1)
+step_held logs short tables frame store (Step.move t number log place) change may few sound step mark cells commit xn written fits =
+    subst (λ (c : Change). may_hold tables frame short c ≡ true) (sym mark)
+    (move_held logs short tables frame store t number log place may few sound step (subst (λ (c : Change). IsStoredNumber c.xn) mark xn) written)
+
+pub change_held : (logs : Parts) (short tables frame : ℕ) (store : Store) (step : Step) (change : Change) → is_short short ≡ true → tables ≤ MOST_TABLES → AreSound short store.tables store.layouts
+    → IsStep logs short store step → IsChangeOf short store step change → IsStoredNumber change.xn → IsWritten tables step → FitsFrame frame store step
+    → may_hold tables frame short change ≡ true
+change_held logs short tables frame store step change may few sound follows is xn written fits =
+    step_held logs short tables frame store step change may few sound follows is.mark is.cells is.commit xn written fits

@@ -1,17 +1,18 @@
 -- The cells of steps, laid over tables, are those of the tables after them.
-use Rattle.std.proofs.Common.{◌≡◌, ◌≢◌, ℕ, ◌==◌, Bool, cond, true, false, List, [], ◌∷◌, ◌++◌, map, refl, sym, ap, subst, ◌∙◌, ⊎_elim}
+use Rattle.std.proofs.Common.{◌≡◌, ◌≢◌, ℕ, ◌==◌, Bool, cond, true, false, List, [], ◌∷◌, ◌++◌, map, refl, sym, ap, subst, ◌∙◌, inl, ⊎_elim}
 use Rattle.std.proofs.lemmas.Bool.{cases_eq, eq-eqb, ne_eqb}
 use Rattle.std.proofs.lemmas.Grind.{fold-append}
 use Rattle.std.proofs.lemmas.List.{map-append}
 use Rattle.std.specs.Prelude.{filter}
 use Rattle.px_cells.specs.declared.cell.Cell.{Cell}
+use Rattle.px_change.specs.declared.change.Change.{Change}
 use Rattle.px_chain.specs.Cells.{cell_of}
 use Rattle.px_chain.specs.Table.{Content, Table, laid, overlaid}
 use Rattle.px_shown.specs.Tables.{Tables, with_table}
 use Rattle.px_history.specs.Store.{Store}
 use Rattle.px_history.specs.Steps.{History, Step, after_step, after_steps}
-use Rattle.px_history.specs.Written.{cells_for, cells_in, changes_of}
-use Rattle.px_history.specs.Written.{change_of, contents_by, contents_in, contents_of, table_of}
+use Rattle.px_history.specs.Written.{AreChangesOf, IsChangeOf, IsMarkOf, cells_for, cells_in, change_of, changes_of, contents_by, contents_in, contents_of, table_of}
+use Rattle.px_shown.specs.Parts.{Parts}
 
 one_laid : (tables : Tables) (n t : ℕ) (cells : List Content) → with_table tables t (laid (tables t) cells) n ≡ laid (tables n) (cond (n == t) cells [])
 one_laid tables n t cells = ⊎_elim
@@ -28,6 +29,7 @@ step_laid store (Step.put at header slot) t = one_laid store.tables t at (conten
 step_laid store (Step.commit xn number) t = none_laid (store.tables t) (t == 0)
 step_laid store (Step.rollback xn) t = none_laid (store.tables t) (t == 0)
 step_laid store (Step.unlink at row from count) t = one_laid store.tables t at (contents_of store (Step.unlink at row from count))
+step_laid store (Step.move at number log place) t = one_laid store.tables t at (contents_of store (Step.move at number log place))
 
 steps_laid : (store : Store) (steps : List Step) (t : ℕ) → (after_steps store steps).tables t ≡ laid (store.tables t) (contents_by t store steps)
 steps_laid store [] t = refl
@@ -36,9 +38,9 @@ steps_laid store (step ∷ steps) t =
     ∙ ap (λ (table : Table). laid table (contents_by t (after_step store step) steps)) (step_laid store step t)
     ∙ sym (fold-append overlaid (store.tables t) (contents_in t store step) (contents_by t (after_step store step) steps))
 
-pub history_laid : (short : ℕ) (base store : Store) (steps : List Step) (t : ℕ) → History short base steps store
+pub history_laid : (parts : Parts) (short : ℕ) (base store : Store) (steps : List Step) (t : ℕ) → History parts short base steps store
     → store.tables t ≡ laid (base.tables t) (contents_by t base steps)
-history_laid short base store steps t h = ap (λ (s : Store). s.tables t) h.lead ∙ steps_laid base steps t
+history_laid parts short base store steps t h = ap (λ (s : Store). s.tables t) h.lead ∙ steps_laid base steps t
 
 -- ---- the cells of changes
 
@@ -68,13 +70,34 @@ kept n t short contents = ⊎_elim
     (λ (away : n ≢ t). rw (ne_eqb n t away) (none_kept n t short contents away))
     (cases_eq n t)
 
-pub step_cells : (short : ℕ) (store : Store) (step : Step) (t : ℕ) → cells_for t (change_of short store step) ≡ map (cell_of t short) (contents_in t store step)
-step_cells short store step t = kept t (table_of step) short (contents_of store step)
+-- ---- what the log has for a step
 
-pub steps_cells : (short : ℕ) (store : Store) (steps : List Step) (t : ℕ) → cells_in t (changes_of short store steps) ≡ map (cell_of t short) (contents_by t store steps)
-steps_cells short store [] t = refl
-steps_cells short store (step ∷ steps) t =
+pub change_is_one : (short : ℕ) (store : Store) (step : Step) → IsChangeOf short store step (change_of short store step)
+change_is_one short store step = record { mark = marked step; cells = refl; commit = refl }
+  where
+    marked : (of : Step) → IsMarkOf of short store (change_of short store of)
+    marked (Step.put t header slot) = refl
+    marked (Step.commit xn number) = refl
+    marked (Step.rollback xn) = refl
+    marked (Step.unlink t row from count) = inl refl
+    marked (Step.move t number log place) = refl
+
+pub changes_are : (short : ℕ) (store : Store) (steps : List Step) → AreChangesOf short store steps (changes_of short store steps)
+changes_are short store [] = tt
+changes_are short store (step ∷ steps) = (change_is_one short store step, changes_are short (after_step store step) steps)
+
+pub step_cells : (short : ℕ) (store : Store) (step : Step) (change : Change) (t : ℕ) → IsChangeOf short store step change
+    → cells_for t change ≡ map (cell_of t short) (contents_in t store step)
+step_cells short store step change t is =
+    ap (λ (cells : List Cell). filter (λ (cell : Cell). cell.table == t) cells) is.cells ∙ kept t (table_of step) short (contents_of store step)
+
+pub steps_cells : (short : ℕ) (store : Store) (steps : List Step) (changes : List Change) (t : ℕ) → AreChangesOf short store steps changes
+    → cells_in t changes ≡ map (cell_of t short) (contents_by t store steps)
+steps_cells short store [] [] t are = refl
+steps_cells short store [] (change ∷ changes) t are = absurd are
+steps_cells short store (step ∷ steps) [] t are = absurd are
+steps_cells short store (step ∷ steps) (change ∷ changes) t are =
     let next = after_step store step in
-    ap (λ (l : List Cell). l ++ cells_in t (changes_of short next steps)) (step_cells short store step t)
-    ∙ ap (λ (l : List Cell). map (cell_of t short) (contents_in t store step) ++ l) (steps_cells short next steps t)
+    ap (λ (l : List Cell). l ++ cells_in t changes) (step_cells short store step change t are.0)
+    ∙ ap (λ (l : List Cell). map (cell_of t short) (contents_in t store step) ++ l) (steps_cells short next steps changes t are.1)
     ∙ sym (map-append (cell_of t short) (contents_in t store step) (contents_by t next steps))

@@ -9,18 +9,22 @@ use Rattle.px_chain.specs.Links.{IsStored}
 use Rattle.px_model.specs.declared.row.Row.{Row}
 use Rattle.px_model.specs.Rows.{key_cmp, same_key}
 use Rattle.px_shown.specs.Example.{row_with, written_by_3}
-use Rattle.px_shown.specs.Shown.{Done}
+use Rattle.px_shown.specs.Moves.{MayMove, moved_slot}
+use Rattle.px_shown.specs.Shown.{Done, Shows}
 use Rattle.px_shown.specs.Writes.{IsInFront}
 use Rattle.px_history.specs.Base.{IsBase}
 use Rattle.px_told.specs.Writes.{rows_over}
-use Rattle.px_history.specs.Example.{again_by_5, deleted_by_4, header_with, second_run, small_base, small_history}
+use Rattle.px_history.specs.Example.{again_by_5, deleted_by_4, header_with, long_body, second_changes, second_run, small_base, small_history, two_places}
 use Rattle.px_history.specs.Store.{Store, nothing, versions_of}
 use Rattle.px_history.specs.Steps.{History, MayCommit, MayPut, MayUnlink, Step, after_step, after_steps}
 use Rattle.px_history.specs.Told.{told_by}
 use Rattle.px_told.specs.Changes.{IsUntold}
 use Rattle.px_history.specs.Writers.{IsAlone}
 use Rattle.px_told.proofs.Changes.{past_untold}
-use Rattle.px_history.proofs.Agreeing.{IsNotOf, open_later}
+use Rattle.px_history.specs.Written.{AreChangesOf}
+use Rattle.px_chain.proofs.Walks.{contains_first}
+use Rattle.px_history.proofs.Agreeing.{IsNotOf, history_agrees, open_later}
+use Rattle.px_history.proofs.Laying.{change_is_one}
 use Rattle.px_history.proofs.Basing.{crashed_is_base, nothing_is_base}
 use Rattle.px_history.proofs.Writing.{base_writer, may_commit, step_writer}
 
@@ -77,7 +81,7 @@ second_put = record {
 one_goes : MayUnlink rolled_back_4 2 1 0 1
 one_goes = record { used = ((omega arith, omega arith), refl); some = omega arith; within = omega arith; same = refl }
 
-pub small_is_one : History 16 nothing small_history (after_steps nothing small_history)
+pub small_is_one : History two_places 16 nothing small_history (after_steps nothing small_history)
 small_is_one = record { follow = (first_put, (first_commit, (second_put, (refl, (one_goes, tt))))); lead = refl }
 
 -- ---- the second run
@@ -85,16 +89,16 @@ small_is_one = record { follow = (first_put, (first_commit, (second_put, (refl, 
 abbrev small_rows : List Row
 small_rows = row_with (97 ∷ []) ∷ []
 
-rows_are : rows_over [] (told_by small_history) ≡ small_rows
+rows_are : rows_over [] (told_by two_places small_history) ≡ small_rows
 unfolding rows_over key_cmp same_key
 rows_are = refl
 
-untold_from : (xn : ℕ) → 5 ≤ xn → IsUntold xn (told_by small_history)
-untold_from xn more = let past : 4 < xn = omega (arith, more) in past_untold (told_by small_history) xn past
+untold_from : (xn : ℕ) → 5 ≤ xn → IsUntold xn (told_by two_places small_history)
+untold_from xn more = let past : 4 < xn = omega (arith, more) in past_untold (told_by two_places small_history) xn past
 
-pub small_is_base : IsBase 16 5 small_rows small_base
-small_is_base = subst (λ (rows : List Row). IsBase 16 5 rows small_base) rows_are
-    (crashed_is_base 16 0 5 [] nothing (after_steps nothing small_history) small_history (nothing_is_base 16) small_is_one (omega arith) untold_from)
+pub small_is_base : IsBase two_places 16 5 small_rows small_base
+small_is_base = subst (λ (rows : List Row). IsBase two_places 16 5 rows small_base) rows_are
+    (crashed_is_base two_places 16 0 5 [] nothing (after_steps nothing small_history) small_history (nothing_is_base two_places 16) small_is_one (omega arith) untold_from)
 
 row_again : IsStored 16 again_by_5
 unfolding is_slot
@@ -113,13 +117,56 @@ after_5 = after_step small_base (Step.put 2 (header_with 2) again_by_5)
 -- only 3 has a version of the row
 alone_5 : IsAlone small_base (Step.put 2 (header_with 2) again_by_5)
 alone_5 other its differ =
-    let later = open_later 16 5 small_rows small_base other small_is_base its in
+    let later = open_later two_places 16 5 small_rows small_base other small_is_base its in
     All-cons (IsNotOf other) written_by_3 [] (ne_eqb 3 other (λ same. omega (arith, same, later))) (All-nil (IsNotOf other))
 
 second_commit : MayCommit after_5 5
-second_commit = may_commit 16 after_5 5 2
-    (step_writer 16 small_base (Step.put 2 (header_with 2) again_by_5) small_is_base.sound (base_writer 16 5 small_rows small_base small_is_base) third_put alone_5)
+second_commit = may_commit two_places 16 after_5 5 2
+    (step_writer two_places 16 small_base (Step.put 2 (header_with 2) again_by_5) small_is_base.sound (base_writer two_places 16 5 small_rows small_base small_is_base) third_put alone_5)
     (record { undone = refl; not_over = refl })
 
-pub second_is_one : History 16 small_base second_run (after_steps small_base second_run)
-second_is_one = record { follow = (third_put, (second_commit, tt)); lead = refl }
+abbrev committed_5 : Store
+committed_5 = after_step after_5 (Step.commit 5 2)
+
+moved_form : IsStored 16 (moved_slot again_by_5 2 24)
+unfolding is_slot
+moved_form = record { form = refl; used = λ e. cc }
+
+part_goes : MayMove two_places 16 committed_5.tables committed_5.layouts 2 2 2 24
+part_goes = record {
+  row = 1;
+  used = ((omega arith, omega arith), refl);
+  linked = contains_first 2 (1 ∷ []);
+  long = λ none. omega (arith, none);
+  some = λ none. omega (arith, none);
+  stored = moved_form;
+  same = refl;
+}
+
+abbrev moved_5 : Store
+moved_5 = after_step committed_5 (Step.move 2 2 2 24)
+
+older_goes : MayUnlink moved_5 2 1 1 1
+older_goes = record { used = ((omega arith, omega arith), refl); some = omega arith; within = omega arith; same = refl }
+
+pub second_is_one : History two_places 16 small_base second_run (after_steps small_base second_run)
+second_is_one = record { follow = (third_put, (second_commit, (part_goes, (older_goes, tt)))); lead = refl }
+
+pub rows_again : rows_over small_rows (told_by two_places second_run) ≡ row_with long_body ∷ []
+unfolding rows_over key_cmp same_key
+rows_again = refl
+
+pub second_shown : Shows two_places (after_steps small_base second_run).tables (after_steps small_base second_run).layouts (after_steps small_base second_run).done (row_with long_body ∷ [])
+second_shown =
+    let store = after_steps small_base second_run in
+    subst (λ (rows : List Row). Shows two_places store.tables store.layouts store.done rows) rows_again
+    (history_agrees two_places 16 5 small_rows small_base store second_run small_is_base second_is_one).shows
+
+pub second_logged : AreChangesOf 16 small_base second_run second_changes
+second_logged = (
+  change_is_one 16 small_base (Step.put 2 (header_with 2) again_by_5),
+  (
+    change_is_one 16 after_5 (Step.commit 5 2),
+    (change_is_one 16 committed_5 (Step.move 2 2 2 24), (record { mark = inr refl; cells = refl; commit = refl }, tt)),
+  ),
+)

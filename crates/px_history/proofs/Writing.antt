@@ -12,6 +12,7 @@ use Rattle.px_shown.specs.Tables.{AreSound}
 use Rattle.px_shown.specs.Writes.{HasNoneOf}
 use Rattle.px_shown.proofs.Changes.{link_changes, unlink_changes}
 use Rattle.px_shown.proofs.Keys.{seen}
+use Rattle.px_shown.proofs.Moving.{in_front_after, none_after}
 use Rattle.px_shown.proofs.Rows.{chains_of, used_or_not}
 use Rattle.px_shown.proofs.Told.{Chains, IsChanged, here_or_away}
 use Rattle.px_shown.proofs.Unlinking.{unlink_in_front}
@@ -19,10 +20,11 @@ use Rattle.px_shown.proofs.Writing.{commit_in_front, link_in_front, nothing_in_f
 use Rattle.px_told.specs.declared.change.Change.{Change}
 use Rattle.px_history.specs.Base.{IsBase}
 use Rattle.px_history.specs.Store.{IsOpen, Store, versions_from, versions_of}
-use Rattle.px_history.specs.Steps.{AreSteps, History, IsStep, LeavesOpen, MayPut, MayUnlink, Step, after_commit, after_put, after_rollback, after_step, after_steps, after_unlink, has_one_of, layout_linked}
+use Rattle.px_history.specs.Steps.{AreSteps, History, IsStep, LeavesOpen, MayPut, MayUnlink, Step, after_commit, after_move, after_put, after_rollback, after_step, after_steps, after_unlink, has_one_of, layout_linked}
 use Rattle.px_history.specs.Told.{Agrees, told}
 use Rattle.px_history.specs.Writers.{AreAlone, HaveOneWriter, IsAlone}
 use Rattle.px_history.proofs.Agreeing.{IsNotOf, base_agrees, link_of, none_among, none_later, none_of, open_before, open_later, step_agrees}
+use Rattle.px_shown.specs.Parts.{Parts}
 
 -- ---- a step of another one
 
@@ -36,6 +38,7 @@ stays_open store (Step.unlink t row from count) xn its none =
       undone = its.undone;
       not_over = or_from (store.over xn) (not (store.done xn) && has_one_of xn gone) its.not_over (and_right (not (store.done xn)) (has_one_of xn gone) (none_among xn gone none));
     }
+stays_open store (Step.move t number log place) xn its other = record { undone = its.undone; not_over = its.not_over }
 
 -- ---- versions that differ only in their links
 
@@ -144,44 +147,59 @@ unlink_writer short store t row from count sound one may =
       in_front = λ xn its. unlink_in_front short store.tables store.layouts store.done xn t row from count sound may.used may.some may.within (one.in_front xn (was xn its));
     }
 
+-- ---- a move
+
+move_writer : (store : Store) (t number log place : ℕ) → HaveOneWriter store → HaveOneWriter (after_move store t number log place)
+move_writer store t number log place one =
+    let next = after_move store t number log place in
+    let was : (xn : ℕ) → IsOpen next xn → IsOpen store xn = open_before store (Step.move t number log place) in
+    record {
+      apart = λ a b open_a open_b differ n row. ⊎_elim
+          (λ (none : HasNoneOf a (versions_of store n row)). inl (none_after store.tables store.layouts a t number log place n row none))
+          (λ (none : HasNoneOf b (versions_of store n row)). inr (none_after store.tables store.layouts b t number log place n row none))
+          (one.apart a b (was a open_a) (was b open_b) differ n row);
+      in_front = λ xn its. in_front_after store.tables store.layouts store.done xn t number log place (one.in_front xn (was xn its));
+    }
+
 -- ---- steps
 
-none_in_row : (short next : ℕ) (rows : List Row) (base : Store) (xn t row : ℕ) → IsBase short next rows base → next ≤ xn → HasNoneOf xn (versions_of base t row)
-none_in_row short next rows base xn t row b later = ⊎_elim
-    (λ (used : IsUsedRow (base.tables t) row). none_later short next rows base xn t row b later used)
+none_in_row : (parts : Parts) (short next : ℕ) (rows : List Row) (base : Store) (xn t row : ℕ) → IsBase parts short next rows base → next ≤ xn → HasNoneOf xn (versions_of base t row)
+none_in_row parts short next rows base xn t row b later = ⊎_elim
+    (λ (used : IsUsedRow (base.tables t) row). none_later parts short next rows base xn t row b later used)
     (λ (unused : IsUsedRow (base.tables t) row → ⊥).
     subst (λ (chain : List ℕ). HasNoneOf xn (map (base.tables t).slot chain)) (sym ((b.sound t).no_chain row unused)) (All-nil (IsNotOf xn)))
     (used_or_not (base.tables t) row)
 
-pub base_writer : (short next : ℕ) (rows : List Row) (base : Store) → IsBase short next rows base → HaveOneWriter base
-base_writer short next rows base b = record {
-  apart = λ a other open_a open_b differ t row. inl (none_in_row short next rows base a t row b (open_later short next rows base a b open_a));
-  in_front = λ xn its. nothing_in_front base.done xn base.tables base.layouts (λ t row used. none_later short next rows base xn t row b (open_later short next rows base xn b its) used);
+pub base_writer : (parts : Parts) (short next : ℕ) (rows : List Row) (base : Store) → IsBase parts short next rows base → HaveOneWriter base
+base_writer parts short next rows base b = record {
+  apart = λ a other open_a open_b differ t row. inl (none_in_row parts short next rows base a t row b (open_later parts short next rows base a b open_a));
+  in_front = λ xn its. nothing_in_front base.done xn base.tables base.layouts (λ t row used. none_later parts short next rows base xn t row b (open_later parts short next rows base xn b its) used);
 }
 
-pub step_writer : (short : ℕ) (store : Store) (step : Step) → AreSound short store.tables store.layouts → HaveOneWriter store → IsStep short store step → IsAlone store step
+pub step_writer : (parts : Parts) (short : ℕ) (store : Store) (step : Step) → AreSound short store.tables store.layouts → HaveOneWriter store → IsStep parts short store step → IsAlone store step
     → HaveOneWriter (after_step store step)
-step_writer short store (Step.put t header slot) sound one may alone = put_writer short store t header slot sound one may alone
-step_writer short store (Step.commit xn number) sound one may alone = commit_writer store xn may.writer one
-step_writer short store (Step.rollback xn) sound one may alone = rollback_writer store xn one
-step_writer short store (Step.unlink t row from count) sound one may alone = unlink_writer short store t row from count sound one may
+step_writer parts short store (Step.put t header slot) sound one may alone = put_writer short store t header slot sound one may alone
+step_writer parts short store (Step.commit xn number) sound one may alone = commit_writer store xn may.writer one
+step_writer parts short store (Step.rollback xn) sound one may alone = rollback_writer store xn one
+step_writer parts short store (Step.unlink t row from count) sound one may alone = unlink_writer short store t row from count sound one may
+step_writer parts short store (Step.move t number log place) sound one may alone = move_writer store t number log place one
 
-pub may_commit : (short : ℕ) (store : Store) (xn number : ℕ) → HaveOneWriter store → IsOpen store xn → IsStep short store (Step.commit xn number)
-may_commit short store xn number one its = record { writer = its; in_front = one.in_front xn its }
+pub may_commit : (parts : Parts) (short : ℕ) (store : Store) (xn number : ℕ) → HaveOneWriter store → IsOpen store xn → IsStep parts short store (Step.commit xn number)
+may_commit parts short store xn number one its = record { writer = its; in_front = one.in_front xn its }
 
 -- ---- histories
 
-steps_writer : (short next : ℕ) (rows : List Row) (base : Store) (changes : List Change) (store : Store) (steps : List Step) → Agrees short next rows base changes store
-    → HaveOneWriter store → AreSteps short store steps → AreAlone store steps → HaveOneWriter (after_steps store steps)
-steps_writer short next rows base changes store [] a one follow alone = one
-steps_writer short next rows base changes store (step ∷ steps) a one follow alone =
-    steps_writer short next rows base (changes ++ told step) (after_step store step) steps (step_agrees short next rows base changes store step a follow.0)
-    (step_writer short store step a.sound one follow.0 alone.0) follow.1 alone.1
+steps_writer : (parts : Parts) (short next : ℕ) (rows : List Row) (base : Store) (changes : List Change) (store : Store) (steps : List Step) → Agrees parts short next rows base changes store
+    → HaveOneWriter store → AreSteps parts short store steps → AreAlone store steps → HaveOneWriter (after_steps store steps)
+steps_writer parts short next rows base changes store [] a one follow alone = one
+steps_writer parts short next rows base changes store (step ∷ steps) a one follow alone =
+    steps_writer parts short next rows base (changes ++ told parts step) (after_step store step) steps (step_agrees parts short next rows base changes store step a follow.0)
+    (step_writer parts short store step a.sound one follow.0 alone.0) follow.1 alone.1
 
-pub history_writer : (short next : ℕ) (rows : List Row) (base store : Store) (steps : List Step) → IsBase short next rows base → History short base steps store
+pub history_writer : (parts : Parts) (short next : ℕ) (rows : List Row) (base store : Store) (steps : List Step) → IsBase parts short next rows base → History parts short base steps store
     → AreAlone base steps → HaveOneWriter store
-history_writer short next rows base store steps b h alone =
-    subst HaveOneWriter (sym h.lead) (steps_writer short next rows base [] base steps (base_agrees short next rows base b) (base_writer short next rows base b) h.follow alone)
+history_writer parts short next rows base store steps b h alone =
+    subst HaveOneWriter (sym h.lead) (steps_writer parts short next rows base [] base steps (base_agrees parts short next rows base b) (base_writer parts short next rows base b) h.follow alone)
 
 pub front_alone : (store : Store) (steps : List Step) (count : ℕ) → AreAlone store steps → AreAlone store (take count steps)
 front_alone store steps zero alone = tt
@@ -192,6 +210,6 @@ alone_more : (store : Store) (steps : List Step) (step : Step) → AreAlone stor
 alone_more store [] step alone one = (one, tt)
 alone_more store (first ∷ steps) step alone one = (alone.0, alone_more (after_step store first) steps step alone.1 one)
 
-pub history_alone : (short : ℕ) (base store : Store) (steps : List Step) (step : Step) → History short base steps store → AreAlone base steps → IsAlone store step
+pub history_alone : (parts : Parts) (short : ℕ) (base store : Store) (steps : List Step) (step : Step) → History parts short base steps store → AreAlone base steps → IsAlone store step
     → AreAlone base (steps ++ step ∷ [])
-history_alone short base store steps step h alone one = alone_more base steps step alone (subst (λ (s : Store). IsAlone s step) h.lead one)
+history_alone parts short base store steps step h alone one = alone_more base steps step alone (subst (λ (s : Store). IsAlone s step) h.lead one)

@@ -1,10 +1,8 @@
 -- A store's tables as a front of its log has them, and what became of its transactions.
 use Rattle.std.specs.Prelude.{◌≡◌, ℕ, Bool, true, false, List, [], ◌∷◌, take, drop}
-use Rattle.px_cells.specs.declared.pointer.Pointer.{Pointer}
 use Rattle.px_cells.specs.declared.slot.Slot.{Slot}
-use Rattle.px_cells.specs.declared.slot.SlotState.TheVariants.{Free, Row}
-use Rattle.px_chain.specs.Sound.{IsUsedRow, no_layout, no_places}
-use Rattle.px_chain.specs.Table.{Table}
+use Rattle.px_cells.specs.declared.slot.SlotState.TheVariants.{Row}
+use Rattle.px_chain.specs.Sound.{IsUsedRow, no_layout}
 use Rattle.px_chain.specs.Unused.{unused_table}
 use Rattle.px_shown.specs.Shown.{Done}
 use Rattle.px_shown.specs.Tables.{Tables, Layouts, slots_of_row}

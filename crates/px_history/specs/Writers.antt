@@ -10,6 +10,7 @@ IsAlone store (Step.put t header slot) = (other : ℕ) → IsOpen store other �
 IsAlone store (Step.commit xn number) = Unit {0}
 IsAlone store (Step.rollback xn) = Unit {0}
 IsAlone store (Step.unlink t row from count) = Unit {0}
+IsAlone store (Step.move t number log place) = Unit {0}
 
 -- and so are all of these
 abbrev pub AreAlone : Store → List Step → Type 0

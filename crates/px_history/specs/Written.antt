@@ -1,5 +1,5 @@
 -- The cells that a step writes, and the change that a frame of the log has for it.
-use Rattle.std.specs.Prelude.{ℕ, ◌==◌, List, [], ◌∷◌, ◌++◌, filter, flat_map, map, if◌then◌else◌}
+use Rattle.std.specs.Prelude.{◌≡◌, ◌⊎◌, ℕ, ◌==◌, List, [], ◌∷◌, ◌++◌, filter, flat_map, map, if◌then◌else◌}
 use Rattle.px_cells.specs.declared.cell.Cell.{Cell}
 use Rattle.px_cells.specs.declared.slot.Slot.{Slot}
 use Rattle.px_change.specs.declared.change.Change.{Change}
@@ -9,6 +9,7 @@ use Rattle.px_chain.specs.Cells.{cell_of}
 use Rattle.px_chain.specs.Links.{chain_of, link_cells, parts_of, unlink_cells}
 use Rattle.px_chain.specs.Table.{Content}
 use Rattle.px_shown.specs.Changes.{taken_slot}
+use Rattle.px_shown.specs.Moves.{move_cells}
 use Rattle.px_history.specs.Store.{Store, versions_from}
 use Rattle.px_history.specs.Steps.{Step, after_step}
 
@@ -18,6 +19,7 @@ table_of (Step.put t header slot) = t
 table_of (Step.commit xn number) = 0
 table_of (Step.rollback xn) = 0
 table_of (Step.unlink t row from count) = t
+table_of (Step.move t number log place) = t
 
 abbrev pub contents_of : Store → Step → List Content
 contents_of store (Step.put t header slot) = link_cells header (taken_slot (store.tables t)) slot
@@ -25,6 +27,7 @@ contents_of store (Step.commit xn number) = []
 contents_of store (Step.rollback xn) = []
 contents_of store (Step.unlink t row from count) =
     unlink_cells (store.tables t).header (parts_of (chain_of (store.tables t) ((store.layouts t).chain row)) from count)
+contents_of store (Step.move t number log place) = move_cells (store.tables t) number log place
 
 -- those of one table
 abbrev pub contents_in : (table : ℕ) → Store → Step → List Content
@@ -47,20 +50,23 @@ kind_of (Step.put t header slot) = kind.Put
 kind_of (Step.commit xn number) = kind.Commit
 kind_of (Step.rollback xn) = kind.Rollback
 kind_of (Step.unlink t row from count) = kind.Tidy
+kind_of (Step.move t number log place) = kind.Move
 
 abbrev pub writer_of : Store → Step → ℕ
 writer_of store (Step.put t header slot) = slot.xn
 writer_of store (Step.commit xn number) = xn
 writer_of store (Step.rollback xn) = xn
 writer_of store (Step.unlink t row from count) = first_writer (versions_from store t row from count)
+writer_of store (Step.move t number log place) = ((store.tables t).slot number).xn
 
 abbrev pub commit_of : Step → ℕ
 commit_of (Step.put t header slot) = 0
 commit_of (Step.commit xn number) = number
 commit_of (Step.rollback xn) = 0
 commit_of (Step.unlink t row from count) = 0
+commit_of (Step.move t number log place) = 0
 
--- the change of a step, in a store with that short length
+-- the change of a step, in a store with that short length; an unlink's is the opening's
 abbrev pub change_of : (short : ℕ) → Store → Step → Change
 change_of short store step = record {
   kind = kind_of step;
@@ -73,6 +79,30 @@ change_of short store step = record {
 abbrev pub changes_of : (short : ℕ) → Store → List Step → List Change
 changes_of short store [] = []
 changes_of short store (step ∷ steps) = change_of short store step ∷ changes_of short (after_step store step) steps
+
+-- An unlink stands in the log as the opening's or as the sweeper's; whose number it carries is no part of the step.
+abbrev pub IsMarkOf : Step → (short : ℕ) → Store → Change → Type 0
+IsMarkOf (Step.put t header slot) short store change = change ≡ change_of short store (Step.put t header slot)
+IsMarkOf (Step.commit xn number) short store change = change ≡ change_of short store (Step.commit xn number)
+IsMarkOf (Step.rollback xn) short store change = change ≡ change_of short store (Step.rollback xn)
+IsMarkOf (Step.unlink t row from count) short store change = (change.kind ≡ kind.Tidy) ⊎ (change.kind ≡ kind.Sweep)
+IsMarkOf (Step.move t number log place) short store change = change ≡ change_of short store (Step.move t number log place)
+
+-- the change is one that the log may have for the step
+pub record IsChangeOf (short : ℕ) (store : Store) (step : Step) (change : Change) : Type 0 where
+  pub mark : IsMarkOf step short store change
+  pub cells : change.cells ≡ (change_of short store step).cells
+  pub commit : change.commit ≡ (change_of short store step).commit
+
+-- and so is each of these, in their order
+abbrev pub AreChangesOf : (short : ℕ) → Store → List Step → List Change → Type 0
+AreChangesOf short store [] [] = Unit {0}
+AreChangesOf short store [] (change ∷ changes) = ⊥
+AreChangesOf short store (step ∷ steps) [] = ⊥
+AreChangesOf short store (step ∷ steps) (change ∷ changes) =
+    IsChangeOf short store step change × AreChangesOf short (after_step store step) steps changes
+
+-- ---- the cells of changes
 
 -- the cells of one table that a change has, in their order
 abbrev pub cells_for : (table : ℕ) → Change → List Cell

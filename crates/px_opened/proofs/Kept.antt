@@ -2,10 +2,12 @@
 use Rattle.std.proofs.Common.{◌≡◌, ◌≢◌, ℕ, ◌+◌, ◌^◌, ◌<◌, ◌==◌, Bool, cond, true, false, List, [], ◌∷◌, map, replicate, refl, sym, ap, subst, ◌∙◌, inl, inr, ⊎_elim}
 use Rattle.std.specs.Prelude.{◌⊎◌}
 use Rattle.std.proofs.lemmas.Bool.{cases_eq, eq-eqb, ne_eqb}
+use Rattle.px_cells.specs.declared.cell.Cell.{Cell}
 use Rattle.px_cells.specs.declared.cell.CellKind.TheVariants.{Slot as ASlot, Pointer as APointer}
 use Rattle.px_cells.specs.declared.header.Header.{Header}
 use Rattle.px_cells.specs.declared.limits.TheConstants.{POINTER_SIZE}
 use Rattle.px_cells.specs.declared.slot.Slot.{Slot}
+use Rattle.px_change.specs.declared.change.Change.{Change}
 use Rattle.px_chain.specs.Cells.{cell_of}
 use Rattle.px_chain.specs.Links.{BeginsRow, IsStored, VariesRow, chain_of, link_cells, linked, parts_of, row_taken, slot_taken, unlink_cells, unlinked}
 use Rattle.px_chain.specs.Sound.{IsSound, Layout, no_layout}
@@ -14,22 +16,25 @@ use Rattle.px_chain.proofs.SoundLaws.{sound_none}
 use Rattle.px_chain.proofs.SoundLink.{row_begun, row_varied}
 use Rattle.px_chain.proofs.SoundUnlink.{part_unlinked}
 use Rattle.px_free.specs.Places as free
-use Rattle.px_history.specs.Fitting.{PlacesFit}
+use Rattle.px_history.specs.Fitting.{AreWritten, IsTable, IsWritten, MoveFits, PlacesFit}
 use Rattle.px_history.specs.Steps.{AreSteps, IsStep, Step, after_step, after_steps, layout_linked}
 use Rattle.px_history.specs.Store.{Store, nothing}
-use Rattle.px_history.specs.Written.{change_of, changes_of}
+use Rattle.px_history.specs.Written.{AreChangesOf, IsChangeOf, change_of}
 use Rattle.px_laid.specs.Holds.{Holds}
 use Rattle.px_laid.specs.Places.{Places, laid_over, none_laid}
 use Rattle.px_chain.specs.Unused.{unused_table}
 use Rattle.px_laid.proofs.Counts as counts
 use Rattle.px_laid.proofs.Holds as holds
-use Rattle.px_laid.proofs.Says.{laid_holds}
+use Rattle.px_laid.proofs.Says.{laid_holds, says_laid}
 use Rattle.px_laid.proofs.Unused as unused
 use Rattle.px_recs.specs.Place.{size_of}
 use Rattle.px_recs.specs.Text.{HeaderFits, PointerAt, SlotAt, SlotFits}
 use Rattle.px_shown.specs.Changes.{IsLink, taken_slot}
-use Rattle.px_opened.specs.Kept.{AreWritten, HoldsStore, IsWritten}
-use Rattle.px_opened.specs.Opened.{IsTable, IsUnused, Opens, changes_over}
+use Rattle.px_shown.specs.Moves.{move_cells, moved_slot}
+use Rattle.px_shown.specs.Parts.{Parts}
+use Rattle.px_shown.proofs.Moving.{one_moved}
+use Rattle.px_opened.specs.Kept.{HoldsStore}
+use Rattle.px_opened.specs.Opened.{IsUnused, Opens, changes_over}
 
 -- ---- nothing
 
@@ -57,18 +62,18 @@ front_fits : (places : free.Places) (behind : ℕ) → places.front < 2 ^ 32 →
 front_fits places behind old new =
     elim (places.front == 0) as (λ b. (cond b (record places { used = places.used + 1 }) (record places { front = behind })).front < 2 ^ 32) [ true ↦ old | false ↦ new ]
 
-header_fits : (tables t : ℕ) (header : Header) → PlacesFit tables t header → header.free_slot < 2 ^ 32 → header.free_row < 2 ^ 32 → HeaderFits header
-header_fits tables t header fits slot row = record { slots = fits.slots; free_slot = slot; rows = fits.rows; free_row = row }
+header_fits : (header : Header) → PlacesFit header → header.free_slot < 2 ^ 32 → header.free_row < 2 ^ 32 → HeaderFits header
+header_fits header fits slot row = record { slots = fits.slots; free_slot = slot; rows = fits.rows; free_row = row }
 
 -- the table after a link, and the places with its cells
 abbrev IsHeldLinked : (short number : ℕ) → Table → Layout → Places → Header → Slot → Type 0
 IsHeldLinked short number table layout places header slot =
     Holds short number (laid table (link_cells header (taken_slot table) slot)) layout (laid_over places (map (cell_of number short) (link_cells header (taken_slot table) slot)))
 
-begun_held : OneLayout → (short tables number : ℕ) (table : Table) (layout : Layout) (places : Places) (header : Header) (slot : Slot) → Holds short number table layout places
-    → IsStored short slot → BeginsRow table header slot → PlacesFit tables number header → SlotFits slot
+begun_held : OneLayout → (short number : ℕ) (table : Table) (layout : Layout) (places : Places) (header : Header) (slot : Slot) → Holds short number table layout places
+    → IsStored short slot → BeginsRow table header slot → PlacesFit header → SlotFits slot
     → IsHeldLinked short number table (layout_linked table layout slot) places header slot
-begun_held one short tables number table layout places header slot held stored begins fits slot_fits =
+begun_held one short number table layout places header slot held stored begins fits slot_fits =
     let after = linked (row_taken (slot_taken layout)) (taken_slot table) slot.row in
     let its_header = held.says.header.fits in
     let slot_front : header.free_slot < 2 ^ 32 =
@@ -77,12 +82,12 @@ begun_held one short tables number table layout places header slot held stored b
     subst (λ (p : free.Places). p.front < 2 ^ 32) (sym begins.rows) (front_fits (free.rows_of table.header) _ its_header.free_row (held.says.pointer table.header.free_row).fits) in
     subst (λ (l : Layout). IsHeldLinked short number table l places header slot) (one short table layout after header slot held.sound (inl (begins, refl)))
     (holds.new_row short number table layout places header slot (row_begun short table layout header slot held.sound stored begins) held stored begins
-    (header_fits tables number header fits slot_front row_front) slot_fits)
+    (header_fits header fits slot_front row_front) slot_fits)
 
-varied_held : OneLayout → (short tables number : ℕ) (table : Table) (layout : Layout) (places : Places) (header : Header) (slot : Slot) → Holds short number table layout places
-    → IsStored short slot → VariesRow table header slot → PlacesFit tables number header → SlotFits slot
+varied_held : OneLayout → (short number : ℕ) (table : Table) (layout : Layout) (places : Places) (header : Header) (slot : Slot) → Holds short number table layout places
+    → IsStored short slot → VariesRow table header slot → PlacesFit header → SlotFits slot
     → IsHeldLinked short number table (layout_linked table layout slot) places header slot
-varied_held one short tables number table layout places header slot held stored varies fits slot_fits =
+varied_held one short number table layout places header slot held stored varies fits slot_fits =
     let after = linked (slot_taken layout) (taken_slot table) slot.row in
     let its_header = held.says.header.fits in
     let slot_front : header.free_slot < 2 ^ 32 =
@@ -90,14 +95,14 @@ varied_held one short tables number table layout places header slot held stored 
     let row_front : header.free_row < 2 ^ 32 = subst (λ (p : free.Places). p.front < 2 ^ 32) (sym varies.rows) its_header.free_row in
     subst (λ (l : Layout). IsHeldLinked short number table l places header slot) (one short table layout after header slot held.sound (inr (varies, refl)))
     (holds.new_variation short number table layout places header slot (row_varied short table layout header slot held.sound stored varies) held stored varies
-    (header_fits tables number header fits slot_front row_front) slot_fits)
+    (header_fits header fits slot_front row_front) slot_fits)
 
-linked_held : OneLayout → (short tables number : ℕ) (table : Table) (layout : Layout) (places : Places) (header : Header) (slot : Slot) → Holds short number table layout places
-    → IsStored short slot → BeginsRow table header slot ⊎ VariesRow table header slot → PlacesFit tables number header → SlotFits slot
+linked_held : OneLayout → (short number : ℕ) (table : Table) (layout : Layout) (places : Places) (header : Header) (slot : Slot) → Holds short number table layout places
+    → IsStored short slot → BeginsRow table header slot ⊎ VariesRow table header slot → PlacesFit header → SlotFits slot
     → IsHeldLinked short number table (layout_linked table layout slot) places header slot
-linked_held one short tables number table layout places header slot held stored link fits slot_fits = ⊎_elim
-    (λ (begins : BeginsRow table header slot). begun_held one short tables number table layout places header slot held stored begins fits slot_fits)
-    (λ (varies : VariesRow table header slot). varied_held one short tables number table layout places header slot held stored varies fits slot_fits)
+linked_held one short number table layout places header slot held stored link fits slot_fits = ⊎_elim
+    (λ (begins : BeginsRow table header slot). begun_held one short number table layout places header slot held stored begins fits slot_fits)
+    (λ (varies : VariesRow table header slot). varied_held one short number table layout places header slot held stored varies fits slot_fits)
     link
 
 -- ---- one table of a store changes
@@ -137,31 +142,78 @@ changed short tables at store places contents layout held is here other its_tabl
     old_layout : (t : ℕ) → t ≢ at → other.layouts t ≡ store.layouts t
     old_layout t away = its_layouts t ∙ ap (λ (b : Bool). cond b layout (store.layouts t)) (ne_eqb t at away)
 
+-- ---- a move
+
+moved_fits : (slot : Slot) (log place : ℕ) → SlotFits slot → log < 2 ^ 32 → place < 2 ^ 32 → SlotFits (moved_slot slot log place)
+moved_fits slot log place fits to_log to_place = record {
+  xn = fits.xn;
+  next = fits.next;
+  row = fits.row;
+  tag = fits.tag;
+  total = fits.total;
+  log = to_log;
+  place = to_place;
+  key = fits.key;
+  short = fits.short;
+}
+
+moved_held : (short tables t number log place : ℕ) (table : Table) (layout : Layout) (places : Places) → Holds short t table layout places
+    → IsStored short (moved_slot (table.slot number) log place) → MoveFits tables t number log place
+    → Holds short t (laid table (move_cells table number log place)) layout (laid_over places (map (cell_of t short) (move_cells table number log place)))
+moved_held short tables t number log place table layout places held stored fits =
+    let contents = move_cells table number log place in
+    let cells = map (cell_of t short) contents in
+    record {
+      sound = one_moved short table layout number log place stored held.sound;
+      says = says_laid short t table places contents held.says
+          ((stored.form, moved_fits (table.slot number) log place (held.says.slot number).fits fits.its_log fits.its_place), tt);
+      counts = record {
+        slots = λ n low high. counts.stays cells places ASlot t n (held.counts.slots n low high);
+        pointers = λ n low high. counts.stays cells places APointer t n (held.counts.pointers n low high);
+      };
+    }
+
 -- ---- a step
 
-pub step_held : OneLayout → (short tables : ℕ) (store : Store) (step : Step) (places : Places) → HoldsStore short tables store places → IsStep short store step → IsWritten tables step
-    → HoldsStore short tables (after_step store step) (laid_over places (change_of short store step).cells)
-step_held one short tables store (Step.put t header slot) places held may written =
-    let is : IsTable tables t = (written.0.some, written.0.within) in
-    changed short tables t store places (link_cells header (taken_slot (store.tables t)) slot) (layout_linked (store.tables t) (store.layouts t) slot) held is
-    (linked_held one short tables t (store.tables t) (store.layouts t) places header slot (held.each t is) may.stored may.link written.0 written.1)
+itself : {X : Type 0} (of : ℕ → X) (n t : ℕ) → of n ≡ cond (n == t) (of t) (of n)
+itself of n t = ⊎_elim
+    (λ (same : n ≡ t). rw (eq-eqb n t same) (ap of same))
+    (λ (away : n ≢ t). rw (ne_eqb n t away) refl)
+    (cases_eq n t)
+
+own_held : OneLayout → (parts : Parts) (short tables : ℕ) (store : Store) (step : Step) (places : Places) → HoldsStore short tables store places → IsStep parts short store step
+    → IsWritten tables step → HoldsStore short tables (after_step store step) (laid_over places (change_of short store step).cells)
+own_held one parts short tables store (Step.put t header slot) places held may written =
+    changed short tables t store places (link_cells header (taken_slot (store.tables t)) slot) (layout_linked (store.tables t) (store.layouts t) slot) held written.table
+    (linked_held one short t (store.tables t) (store.layouts t) places header slot (held.each t written.table) may.stored may.link written.places written.its_slot)
     (after_step store (Step.put t header slot)) (λ n. refl) (λ n. refl)
-step_held one short tables store (Step.commit xn number) places held may written = record { each = held.each; others = held.others }
-step_held one short tables store (Step.rollback xn) places held may written = record { each = held.each; others = held.others }
-step_held one short tables store (Step.unlink t row from count) places held may written =
+own_held one parts short tables store (Step.commit xn number) places held may written = record { each = held.each; others = held.others }
+own_held one parts short tables store (Step.rollback xn) places held may written = record { each = held.each; others = held.others }
+own_held one parts short tables store (Step.unlink t row from count) places held may written =
     let table = store.tables t in
     let layout = store.layouts t in
     changed short tables t store places (unlink_cells table.header (parts_of (chain_of table (layout.chain row)) from count)) (unlinked layout row from count) held written
     (holds.unlink short t table layout places row from count (part_unlinked short table layout row from count (held.each t written).sound may.used may.some may.within)
     (held.each t written) may.used)
     (after_step store (Step.unlink t row from count)) (λ n. refl) (λ n. refl)
+own_held one parts short tables store (Step.move t number log place) places held may written =
+    changed short tables t store places (move_cells (store.tables t) number log place) (store.layouts t) held written.table
+    (moved_held short tables t number log place (store.tables t) (store.layouts t) places (held.each t written.table) may.stored written)
+    (after_step store (Step.move t number log place)) (λ n. refl) (λ n. itself store.layouts n t)
 
-pub steps_held : OneLayout → (short tables : ℕ) (store : Store) (steps : List Step) (places : Places) → HoldsStore short tables store places → AreSteps short store steps
-    → AreWritten tables steps → HoldsStore short tables (after_steps store steps) (changes_over places (changes_of short store steps))
-steps_held one short tables store [] places held may written = held
-steps_held one short tables store (step ∷ steps) places held may written =
-    steps_held one short tables (after_step store step) steps (laid_over places (change_of short store step).cells)
-    (step_held one short tables store step places held may.0 written.0) may.1 written.1
+pub step_held : OneLayout → (parts : Parts) (short tables : ℕ) (store : Store) (step : Step) (change : Change) (places : Places) → HoldsStore short tables store places
+    → IsStep parts short store step → IsWritten tables step → IsChangeOf short store step change → HoldsStore short tables (after_step store step) (laid_over places change.cells)
+step_held one parts short tables store step change places held may written is =
+    subst (λ (cells : List Cell). HoldsStore short tables (after_step store step) (laid_over places cells)) (sym is.cells) (own_held one parts short tables store step places held may written)
+
+pub steps_held : OneLayout → (parts : Parts) (short tables : ℕ) (store : Store) (steps : List Step) (changes : List Change) (places : Places) → HoldsStore short tables store places
+    → AreSteps parts short store steps → AreWritten tables steps → AreChangesOf short store steps changes → HoldsStore short tables (after_steps store steps) (changes_over places changes)
+steps_held one parts short tables store [] [] places held may written are = held
+steps_held one parts short tables store [] (change ∷ changes) places held may written are = absurd are
+steps_held one parts short tables store (step ∷ steps) [] places held may written are = absurd are
+steps_held one parts short tables store (step ∷ steps) (change ∷ changes) places held may written are =
+    steps_held one parts short tables (after_step store step) steps changes (laid_over places change.cells)
+    (step_held one parts short tables store step change places held may.0 written.0 are.0) may.1 written.1 are.1
 
 -- ---- what is held opens
 

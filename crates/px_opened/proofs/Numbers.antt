@@ -3,7 +3,7 @@ use Rattle.std.proofs.Common.{◌≡◌, ℕ, zero, suc, ◌+◌, ◌-◌, ◌<�
 use Rattle.std.specs.Prelude.{◌⊎◌}
 use Rattle.std.proofs.lemmas.Bool.{cases_lt}
 use Rattle.px_laid.specs.Whole.{AllFrom, AreAll}
-use Rattle.px_opened.specs.Opened.{IsTable}
+use Rattle.px_history.specs.Fitting.{IsTable}
 
 at : {X : Type 0} (At : ℕ → X → Type 0) (first : ℕ) (xs : List X) (n : ℕ) (d : X) → AllFrom At first xs → n < length xs → At (first + n) (get_or xs n d)
 at At first [] n d all within = absurd (omega (arith, within))

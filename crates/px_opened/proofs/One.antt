@@ -18,9 +18,11 @@ use Rattle.px_laid.proofs.Readings.{OneReading}
 use Rattle.px_model.specs.declared.row.Row.{Row}
 use Rattle.px_model.specs.Rows.{row_at}
 use Rattle.px_recs.specs.Text.{PointerAt, SlotAt}
+use Rattle.px_history.specs.Fitting.{IsTable}
+use Rattle.px_shown.specs.Parts.{Parts}
 use Rattle.px_shown.specs.Shown.{Done, Shows, row_shown}
 use Rattle.px_shown.specs.Tables.{AreSound, Layouts, Tables, slots_of_row}
-use Rattle.px_opened.specs.Opened.{IsReadOf, IsSameLayout, IsSameTable, IsTable, IsUnused, Opens}
+use Rattle.px_opened.specs.Opened.{IsReadOf, IsSameLayout, IsSameTable, IsUnused, Opens}
 use Rattle.px_opened.proofs.Numbers.{table_or_not}
 
 -- ---- cells
@@ -127,9 +129,9 @@ same_row short a b of_a of_b row sound same alike used_b =
       slots = map_same a b row (of_a.chain row) same chain.variations ∙ ap (λ (l : List ℕ). map b.slot l) (alike.chains row);
     }
 
-pub same_shown : OneReading → (short tables : ℕ) (places : Places) (a b : Tables) (of_a of_b : Layouts) (done : Done) (rows : List Row) → Opens short tables places a of_a
-    → Opens short tables places b of_b → Shows a of_a done rows → Shows b of_b done rows
-same_shown one short tables places a b of_a of_b done rows opens_a opens_b shows =
+pub same_shown : OneReading → (parts : Parts) (short tables : ℕ) (places : Places) (a b : Tables) (of_a of_b : Layouts) (done : Done) (rows : List Row) → Opens short tables places a of_a
+    → Opens short tables places b of_b → Shows parts a of_a done rows → Shows parts b of_b done rows
+same_shown one parts short tables places a b of_a of_b done rows opens_a opens_b shows =
     let its_row : (t row : ℕ) → IsUsedRow (b t) row → IsSameRow (a t) (b t) (of_a t) (of_b t) row =
     λ t row used. same_row short (a t) (b t) (of_a t) (of_b t) row (all_sound short tables places a of_a opens_a t)
     (same_tables one short tables places a b of_a of_b t opens_a opens_b) (same_layouts one short tables places a b of_a of_b t opens_a opens_b) used in
@@ -141,8 +143,8 @@ same_shown one short tables places a b of_a of_b done rows opens_a opens_b shows
       keys = record {
         of_row = λ t row used.
             let r = its_row t row used in
-            subst (λ (key : List ℕ). row_at (t, key) rows ≡ row_shown t done (slots_of_row (b t) (of_b t) row)) r.key
-            (subst (λ (slots : List Slot). row_at (t, key_of (a t) row) rows ≡ row_shown t done slots) r.slots (shows.keys.of_row t row r.used));
+            subst (λ (key : List ℕ). row_at (t, key) rows ≡ row_shown parts t done (slots_of_row (b t) (of_b t) row)) r.key
+            (subst (λ (slots : List Slot). row_at (t, key_of (a t) row) rows ≡ row_shown parts t done slots) r.slots (shows.keys.of_row t row r.used));
         of_none = λ key none. shows.keys.of_none key (λ row used is. let r = other_row key.0 row used in none row r.used (r.key ∙ is));
       };
     }

@@ -12,7 +12,8 @@ use Rattle.px_site.specs.declared.name.FileName.{FileName}
 use Rattle.px_survey.specs.Cells.{table_of}
 use Rattle.px_survey.specs.Flaws.{IsFirstFlaw}
 use Rattle.px_survey.specs.declared.flaw.Flaw.{Flaw}
-use Rattle.px_opened.specs.Opened.{IsTable, OpensTo}
+use Rattle.px_history.specs.Fitting.{IsTable}
+use Rattle.px_opened.specs.Opened.{OpensTo}
 use Rattle.px_opened.specs.declared.error.OpenedError.{OpenedError}
 use Rattle.px_opened.specs.declared.error.OpenedError.TheVariants.{OutOfMemory, Damaged}
 

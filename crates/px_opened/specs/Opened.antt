@@ -1,9 +1,10 @@
 -- The tables that the places of cells open to.
-use Rattle.std.specs.Prelude.{◌≡◌, ℕ, suc, ◌≤◌, List, [], ◌∷◌, fold}
+use Rattle.std.specs.Prelude.{◌≡◌, ℕ, suc, List, [], ◌∷◌, fold}
 use Rattle.px_change.specs.declared.change.Change.{Change}
 use Rattle.px_chain.specs.Sound.{IsPlace, IsSlot, IsSound, Layout, no_layout, no_places}
 use Rattle.px_chain.specs.Table.{Table}
 use Rattle.px_free.specs.Places.{rows_of}
+use Rattle.px_history.specs.Fitting.{IsTable}
 use Rattle.px_laid.specs.Places.{Places, laid_over}
 use Rattle.px_laid.specs.Reading.{header_bytes}
 use Rattle.px_chain.specs.Unused.{unused_table}
@@ -48,10 +49,6 @@ pub record IsSameLayout (a b : Layout) : Type 0 where
   pub free_rows : a.free_rows ≡ b.free_rows
 
 -- ---- all tables
-
--- a store with so many tables has this one
-abbrev pub IsTable : (tables t : ℕ) → Type 0
-IsTable tables t = (1 ≤ t) × (t ≤ tables)
 
 -- In a store with so many tables and that short length, the places open to these tables, with these layouts.
 pub record Opens (short tables : ℕ) (places : Places) (found : Tables) (layouts : Layouts) : Type 0 where

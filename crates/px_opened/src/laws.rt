@@ -1,14 +1,17 @@
 ghost use Rattle.std.specs.Prelude.{◌≡◌, ◌↔◌, ℕ, List};
+ghost use Rattle.px_change.specs.declared.change.Change.{Change};
+ghost use Rattle.px_history.specs.Fitting.{AreWritten, IsWritten};
 ghost use Rattle.px_history.specs.Steps.{AreSteps, IsStep, Step, after_step, after_steps};
 ghost use Rattle.px_history.specs.Store.{Store, nothing};
-ghost use Rattle.px_history.specs.Written.{change_of, changes_of};
+ghost use Rattle.px_history.specs.Written.{AreChangesOf, IsChangeOf};
 ghost use Rattle.px_laid.specs.Places.{Places, laid_over, none_laid};
 ghost use Rattle.px_model.specs.declared.row.Row.{Row};
+ghost use Rattle.px_shown.specs.Parts.{Parts};
 ghost use Rattle.px_shown.specs.Shown.{Done, Shows};
 ghost use Rattle.px_shown.specs.Tables.{Layouts, Tables};
 ghost use Rattle.px_site.specs.declared.name.FileName.{FileName};
 ghost use Rattle.px_opened.specs.Damage.{IsDamage};
-ghost use Rattle.px_opened.specs.Kept.{AreWritten, HoldsStore, IsWritten};
+ghost use Rattle.px_opened.specs.Kept.{HoldsStore};
 ghost use Rattle.px_opened.specs.Opened.{IsSameLayout, IsSameTable, Opens, changes_over};
 
 use px_history::a_link_leaves_one_layout;
@@ -21,8 +24,8 @@ pub fn what_opens_is_one()
         → Opens short tables places a of_a → Opens short tables places b of_b → IsSameTable (a t) (b t) }
     ensures layouts { (short tables : ℕ) (places : Places) (a b : Tables) (of_a of_b : Layouts) (t : ℕ)
         → Opens short tables places a of_a → Opens short tables places b of_b → IsSameLayout (of_a t) (of_b t) }
-    ensures shows { (short tables : ℕ) (places : Places) (a b : Tables) (of_a of_b : Layouts) (done : Done) (rows : List Row)
-        → Opens short tables places a of_a → Opens short tables places b of_b → Shows a of_a done rows → Shows b of_b done rows }
+    ensures shows { (parts : Parts) (short tables : ℕ) (places : Places) (a b : Tables) (of_a of_b : Layouts) (done : Done) (rows : List Row)
+        → Opens short tables places a of_a → Opens short tables places b of_b → Shows parts a of_a done rows → Shows parts b of_b done rows }
 {
     one_reading();
 }
@@ -49,35 +52,36 @@ pub fn what_is_held_opens()
         → Opens short tables places store.tables store.layouts }
 {}
 
-/// Where nothing is laid, the places hold the store of which nothing was ever used. Where they hold a store, and the change of a
-/// step that may follow is laid over them, they hold the store after it; and so after any number of steps.
+/// Where nothing is laid, the places hold the store of which nothing was ever used. Where they hold a store, and a change that the
+/// log may have for a step is laid over them, they hold the store after it; and so after any number of steps.
 pub fn a_step_keeps_what_is_held()
     ensures nothing { (short tables : ℕ) → HoldsStore short tables nothing none_laid }
-    ensures step { (short tables : ℕ) (store : Store) (step : Step) (places : Places) → HoldsStore short tables store places
-        → IsStep short store step → IsWritten tables step
-        → HoldsStore short tables (after_step store step) (laid_over places (change_of short store step).cells) }
-    ensures steps { (short tables : ℕ) (store : Store) (steps : List Step) (places : Places) → HoldsStore short tables store places
-        → AreSteps short store steps → AreWritten tables steps
-        → HoldsStore short tables (after_steps store steps) (changes_over places (changes_of short store steps)) }
+    ensures step { (parts : Parts) (short tables : ℕ) (store : Store) (step : Step) (change : Change) (places : Places) → HoldsStore short tables store places
+        → IsStep parts short store step → IsWritten tables step → IsChangeOf short store step change
+        → HoldsStore short tables (after_step store step) (laid_over places change.cells) }
+    ensures steps { (parts : Parts) (short tables : ℕ) (store : Store) (steps : List Step) (changes : List Change) (places : Places) → HoldsStore short tables store places
+        → AreSteps parts short store steps → AreWritten tables steps → AreChangesOf short store steps changes
+        → HoldsStore short tables (after_steps store steps) (changes_over places changes) }
 {
     a_link_leaves_one_layout();
 }
 
 /// The changes of steps that lead from nothing to a store, laid one after the other, open to this store: with its tables and its
-/// layouts, and whatever they open to shows just the rows that the store shows, whichever transactions are done. So an opening of
-/// them fails only for want of memory.
+/// layouts, and whatever they open to shows just the rows that the store shows, whichever transactions are done and whatever lies
+/// in the data logs. So an opening of them fails only for want of memory.
 pub fn a_history_opens_to_its_store()
-    ensures opens { (short tables : ℕ) (steps : List Step) → AreSteps short nothing steps → AreWritten tables steps
+    ensures opens { (parts : Parts) (short tables : ℕ) (steps : List Step) (changes : List Change)
+        → AreSteps parts short nothing steps → AreWritten tables steps → AreChangesOf short nothing steps changes
         → let store = after_steps nothing steps in
-        Opens short tables (changes_over none_laid (changes_of short nothing steps)) store.tables store.layouts }
-    ensures shows { (short tables : ℕ) (steps : List Step) (found : Tables) (layouts : Layouts) (done : Done) (rows : List Row)
-        → AreSteps short nothing steps → AreWritten tables steps
-        → Opens short tables (changes_over none_laid (changes_of short nothing steps)) found layouts
+        Opens short tables (changes_over none_laid changes) store.tables store.layouts }
+    ensures shows { (parts others : Parts) (short tables : ℕ) (steps : List Step) (changes : List Change) (found : Tables) (layouts : Layouts) (done : Done) (rows : List Row)
+        → AreSteps parts short nothing steps → AreWritten tables steps → AreChangesOf short nothing steps changes
+        → Opens short tables (changes_over none_laid changes) found layouts
         → let store = after_steps nothing steps in
-        Shows found layouts done rows ↔ Shows store.tables store.layouts done rows }
-    ensures no_damage { (short tables : ℕ) (steps : List Step) (file : FileName) (place : ℕ)
-        → AreSteps short nothing steps → AreWritten tables steps
-        → ¬ IsDamage short tables (changes_over none_laid (changes_of short nothing steps)) file place }
+        Shows others found layouts done rows ↔ Shows others store.tables store.layouts done rows }
+    ensures no_damage { (parts : Parts) (short tables : ℕ) (steps : List Step) (changes : List Change) (file : FileName) (place : ℕ)
+        → AreSteps parts short nothing steps → AreWritten tables steps → AreChangesOf short nothing steps changes
+        → ¬ IsDamage short tables (changes_over none_laid changes) file place }
 {
     what_opens_is_one();
     what_opens_has_no_damage();

@@ -7,7 +7,7 @@
 //! - `laws`: places open to one store, or have one damage; and the changes of a history open to the history's store.
 //!
 //! `specs/Opened` says which tables places open to, `specs/Damage` what the first damage is, and `specs/Kept` that places hold a
-//! store, and which steps keep it so.
+//! store.
 #![tactic(auto)]
 
 mod error;

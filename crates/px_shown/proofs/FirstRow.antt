@@ -11,6 +11,7 @@ use Rattle.px_chain.specs.Links.{BeginsRow, IsStored, linked}
 use Rattle.px_model.specs.declared.row.Row.{Row}
 use Rattle.px_model.specs.Rows.{after}
 use Rattle.px_shown.specs.Tables.{Tables, Layouts, with_layout}
+use Rattle.px_shown.specs.Parts.{Parts}
 use Rattle.px_shown.specs.Shown.{Done, done_with, row_of, write_in, write_of, Shows}
 use Rattle.px_shown.specs.Changes.{IsLink, with_link}
 use Rattle.px_shown.specs.Example.{one_place}
@@ -36,21 +37,21 @@ link table slot none its_row next = inl (
   sym (ap (λ (h : Header). linked no_layout (next_place (slots_of h)) slot.row) none ∙ ap (λ (row : ℕ). linked no_layout 1 row) its_row),
 )
 
-put : (t : ℕ) (slot : Slot) → slot.state ≡ state.Row → after [] (write_of t slot ∷ []) ≡ row_of t slot ∷ []
-put t slot is = ap (λ (s : SlotState). after [] (write_in s t slot ∷ [])) is
+put : (parts : Parts) (t : ℕ) (slot : Slot) → slot.state ≡ state.Row → after [] (write_of parts t slot ∷ []) ≡ row_of parts t slot ∷ []
+put parts t slot is = ap (λ (s : SlotState). after [] (write_in parts s t slot ∷ [])) is
 
-pub first_row : (short : ℕ) (tables : Tables) (done : Done) (t : ℕ) (slot : Slot) → ((n : ℕ) → (tables n).header ≡ no_places)
+pub first_row : (parts : Parts) (short : ℕ) (tables : Tables) (done : Done) (t : ℕ) (slot : Slot) → ((n : ℕ) → (tables n).header ≡ no_places)
     → IsStored short slot → slot.state ≡ state.Row → slot.row ≡ 1 → slot.next ≡ 0 → done slot.xn ≡ false
-    → Shows (with_link tables t one_place slot) (with_layout (λ n. no_layout) t (linked no_layout 1 1)) (done_with slot.xn done) (row_of t slot ∷ [])
-first_row short tables done t slot none stored is its_row next not_done =
+    → Shows parts (with_link tables t one_place slot) (with_layout (λ n. no_layout) t (linked no_layout 1 1)) (done_with slot.xn done) (row_of parts t slot ∷ [])
+first_row parts short tables done t slot none stored is its_row next not_done =
     let layouts : Layouts = λ n. no_layout in
     let sound = no_cells_sound short tables none in
     let linking = link (tables t) slot (none t) its_row next in
     let other = linked no_layout 1 1 in
-    subst (λ (rows : List Row). Shows (with_link tables t one_place slot) (with_layout layouts t other) (done_with slot.xn done) rows) (put t slot is)
-    (commit_shows (with_link tables t one_place slot) (with_layout layouts t other) done slot.xn [] (write_of t slot ∷ [])
+    subst (λ (rows : List Row). Shows parts (with_link tables t one_place slot) (with_layout layouts t other) (done_with slot.xn done) rows) (put parts t slot is)
+    (commit_shows parts (with_link tables t one_place slot) (with_layout layouts t other) done slot.xn [] (write_of parts t slot ∷ [])
     (link_in_front short tables layouts done slot.xn t one_place slot other sound stored linking not_done
     (nothing_in_front done slot.xn tables layouts (λ n row used. absurd (unused (tables n) row (none n) used))))
-    (link_written short tables layouts [] t one_place slot other sound stored linking
-    (nothing_written slot.xn tables layouts (λ n row used. absurd (unused (tables n) row (none n) used))))
-    (link_hidden short tables layouts done [] t one_place slot other sound stored linking not_done (none_shown tables layouts done none)))
+    (link_written parts short tables layouts [] t one_place slot other sound stored linking
+    (nothing_written parts slot.xn tables layouts (λ n row used. absurd (unused (tables n) row (none n) used))))
+    (link_hidden parts short tables layouts done [] t one_place slot other sound stored linking not_done (none_shown parts tables layouts done none)))

@@ -1,6 +1,6 @@
 -- The first slots of a chain that are done, or of a transaction.
 use Rattle.std.proofs.Common.{◌≡◌, ℕ, ◌==◌, ◌||◌, Bool, true, false, cond, List, [], ◌∷◌, ◌++◌, map, take, drop, Option, Some, None, option_map, refl, sym, ap, subst, ◌∙◌, ⊎_elim}
-use Rattle.std.specs.Prelude.{All, Contains}
+use Rattle.std.specs.Prelude.{All, Contains, option_and_then}
 use Rattle.std.specs.Option.{option_or}
 use Rattle.std.proofs.lemmas.List.{take-append-drop}
 use Rattle.std.proofs.lemmas.List.Elements.{All-nil, All-cons, All-head, All-tail}
@@ -13,25 +13,30 @@ use Rattle.px_model.specs.declared.write.Write.{Write}
 use Rattle.px_model.specs.Rows.{key_written}
 use Rattle.px_model_laws.specs.Keys.{row_written}
 use Rattle.px_machine_laws.specs.Seen.{row_left}
-use Rattle.px_shown.specs.Shown.{Done, done_with, write_in, write_of, first_done, row_shown}
+use Rattle.px_shown.specs.Parts.{Parts}
+use Rattle.px_shown.specs.Shown.{Done, done_with, first_done, row_of, row_shown, slot_in, slot_shown, write_in, write_of}
 use Rattle.px_shown.specs.Writes.{first_of, HasNoneOf, HasNoneDone, IsInFront}
 use Rattle.px_shown.specs.Changes.{left_of}
 use Rattle.px_shown.proofs.Keys.{seen}
 
--- ---- what a slot wrote
+-- ---- what a slot wrote, and shows
 
-pub key_of_write : (table : ℕ) (slot : Slot) → key_written (write_of table slot) ≡ (table, slot.key)
-key_of_write table slot = in_state slot.state
+-- the slot that is shown, where this is the first that is done
+abbrev pub shown_of : Option Slot → Option Slot
+shown_of first = option_and_then (λ (slot : Slot). slot_in slot.state slot) first
+
+pub key_of_write : (parts : Parts) (table : ℕ) (slot : Slot) → key_written (write_of parts table slot) ≡ (table, slot.key)
+key_of_write parts table slot = in_state slot.state
   where
-    in_state : (s : SlotState) → key_written (write_in s table slot) ≡ (table, slot.key)
+    in_state : (s : SlotState) → key_written (write_in parts s table slot) ≡ (table, slot.key)
     in_state state.Row = refl
     in_state state.Deletion = refl
     in_state state.Free = refl
 
-pub write_seen : (table : ℕ) (slot : Slot) → write_of table (seen slot) ≡ write_of table slot
-write_seen table slot = in_state slot.state
+pub write_seen : (parts : Parts) (table : ℕ) (slot : Slot) → write_of parts table (seen slot) ≡ write_of parts table slot
+write_seen parts table slot = in_state slot.state
   where
-    in_state : (s : SlotState) → write_in s table (seen slot) ≡ write_in s table slot
+    in_state : (s : SlotState) → write_in parts s table (seen slot) ≡ write_in parts s table slot
     in_state state.Row = refl
     in_state state.Deletion = refl
     in_state state.Free = refl
@@ -46,12 +51,12 @@ first_seen done (slot ∷ slots) =
       | false ↦ first_seen done slots
     ]
 
-written_seen : (table : ℕ) (found : Option Slot) → option_map (write_of table) (option_map seen found) ≡ option_map (write_of table) found
-written_seen table None = refl
-written_seen table (Some slot) = ap (λ (w : Write). Some w) (write_seen table slot)
+written_seen : (parts : Parts) (table : ℕ) (found : Option Slot) → option_map (write_of parts table) (option_map seen found) ≡ option_map (write_of parts table) found
+written_seen parts table None = refl
+written_seen parts table (Some slot) = ap (λ (w : Write). Some w) (write_seen parts table slot)
 
-pub writes_alike : (table : ℕ) (done : Done) (slots : List Slot) → option_map (write_of table) (first_done done (map seen slots)) ≡ option_map (write_of table) (first_done done slots)
-writes_alike table done slots = ap (option_map (write_of table)) (first_seen done slots) ∙ written_seen table (first_done done slots)
+pub writes_alike : (parts : Parts) (table : ℕ) (done : Done) (slots : List Slot) → option_map (write_of parts table) (first_done done (map seen slots)) ≡ option_map (write_of parts table) (first_done done slots)
+writes_alike parts table done slots = ap (option_map (write_of parts table)) (first_seen done slots) ∙ written_seen parts table (first_done done slots)
 
 -- ---- what is done is asked of the slots
 
@@ -77,12 +82,12 @@ none_done done (slot ∷ slots) none =
     first_passed done slot slots (All-head (λ (s : Slot). done s.xn ≡ false) slot slots none)
     ∙ none_done done slots (All-tail (λ (s : Slot). done s.xn ≡ false) slot slots none)
 
-pub done_none : (table : ℕ) (done : Done) (slots : List Slot) → option_map (write_of table) (first_done done slots) ≡ None → HasNoneDone done slots
-done_none table done [] none = All-nil (λ (s : Slot). done s.xn ≡ false)
-done_none table done (slot ∷ slots) none =
-    (elim (done slot.xn) as (λ b. done slot.xn ≡ b → option_map (write_of table) (cond b (Some slot) (first_done done slots)) ≡ None → HasNoneDone done (slot ∷ slots)) [
+pub done_none : (parts : Parts) (table : ℕ) (done : Done) (slots : List Slot) → option_map (write_of parts table) (first_done done slots) ≡ None → HasNoneDone done slots
+done_none parts table done [] none = All-nil (λ (s : Slot). done s.xn ≡ false)
+done_none parts table done (slot ∷ slots) none =
+    (elim (done slot.xn) as (λ b. done slot.xn ≡ b → option_map (write_of parts table) (cond b (Some slot) (first_done done slots)) ≡ None → HasNoneDone done (slot ∷ slots)) [
       | true ↦ λ e some. let no : ⊥ = cc in absurd no
-      | false ↦ λ e rest. All-cons (λ (s : Slot). done s.xn ≡ false) slot slots e (done_none table done slots rest)
+      | false ↦ λ e rest. All-cons (λ (s : Slot). done s.xn ≡ false) slot slots e (done_none parts table done slots rest)
     ]) refl none
 
 some_done : (done : Done) (slots : List Slot) (slot : Slot) → Contains slots slot → done slot.xn ≡ true → (first : Slot) × (first_done done slots ≡ Some first)
@@ -139,17 +144,35 @@ left_covered done slots slot from count there is =
     ∙ sym (first_whole done slots from count)
 
 -- the first that is done is a deletion, and nothing that is left is done
-pub left_deleted : (table : ℕ) (done : Done) (slots : List Slot) (slot : Slot) (from count : ℕ) → first_done done slots ≡ Some slot → slot.state ≡ state.Deletion
-    → HasNoneDone done (left_of slots from count) → row_shown table done (left_of slots from count) ≡ row_shown table done slots
-left_deleted table done slots slot from count first deletion none =
-    ap (λ (o : Option Slot). row_left None (option_map (write_of table) o)) (none_done done (left_of slots from count) none)
-    ∙ sym (ap (λ (o : Option Slot). row_left None (option_map (write_of table) o)) first
-    ∙ ap (λ (s : SlotState). row_written (write_in s table slot)) deletion)
+pub left_deleted : (done : Done) (slots : List Slot) (slot : Slot) (from count : ℕ) → first_done done slots ≡ Some slot → slot.state ≡ state.Deletion
+    → HasNoneDone done (left_of slots from count) → slot_shown done (left_of slots from count) ≡ slot_shown done slots
+left_deleted done slots slot from count first deletion none =
+    ap shown_of (none_done done (left_of slots from count) none)
+    ∙ sym (ap shown_of first ∙ ap (λ (s : SlotState). slot_in s slot) deletion)
 
-pub newest_shown : (table : ℕ) (done : Done) (before behind : List Slot) (slot : Slot) → HasNoneDone done before → done slot.xn ≡ true
-    → row_shown table done (before ++ (slot ∷ behind)) ≡ row_written (write_of table slot)
-newest_shown table done before behind slot none is =
-    ap (λ (o : Option Slot). row_left None (option_map (write_of table) o))
+row_in_state : (parts : Parts) (table : ℕ) (s : SlotState) (slot : Slot) → row_written (write_in parts s table slot) ≡ option_map (row_of parts table) (slot_in s slot)
+row_in_state parts table state.Row slot = refl
+row_in_state parts table state.Deletion slot = refl
+row_in_state parts table state.Free slot = refl
+
+row_of_first : (parts : Parts) (table : ℕ) (first : Option Slot) → row_left None (option_map (write_of parts table) first) ≡ option_map (row_of parts table) (shown_of first)
+row_of_first parts table None = refl
+row_of_first parts table (Some slot) = row_in_state parts table slot.state slot
+
+-- the row that is shown is that of one slot
+pub row_of_slot : (parts : Parts) (table : ℕ) (done : Done) (slots : List Slot) → row_shown parts table done slots ≡ option_map (row_of parts table) (slot_shown done slots)
+row_of_slot parts table done slots = row_of_first parts table (first_done done slots)
+
+-- so where one slot is shown, one row is
+pub one_slot_one_row : (parts : Parts) (table : ℕ) (done : Done) (slots others : List Slot) → slot_shown done others ≡ slot_shown done slots
+    → row_shown parts table done others ≡ row_shown parts table done slots
+one_slot_one_row parts table done slots others same =
+    row_of_slot parts table done others ∙ ap (option_map (row_of parts table)) same ∙ sym (row_of_slot parts table done slots)
+
+pub newest_shown : (parts : Parts) (table : ℕ) (done : Done) (before behind : List Slot) (slot : Slot) → HasNoneDone done before → done slot.xn ≡ true
+    → row_shown parts table done (before ++ (slot ∷ behind)) ≡ row_written (write_of parts table slot)
+newest_shown parts table done before behind slot none is =
+    ap (λ (o : Option Slot). row_left None (option_map (write_of parts table) o))
     (first_split done before (slot ∷ behind)
     ∙ ap (λ (o : Option Slot). option_or o (first_done done (slot ∷ behind))) (none_done done before none)
     ∙ first_found done slot behind is)
@@ -179,18 +202,18 @@ front_first done xn (slot ∷ before) behind not_done others =
     step (slot.xn == xn) (done slot.xn) slot _ _ _ (All-head (λ (s : Slot). done s.xn ≡ false) slot before not_done)
     (front_first done xn before behind (All-tail (λ (s : Slot). done s.xn ≡ false) slot before not_done) others)
 
-left_over : (table : ℕ) (was own : Option Slot) → row_left (row_left None (option_map (write_of table) was)) (option_map (write_of table) own)
-    ≡ row_left None (option_map (write_of table) (option_or own was))
-left_over table was None = refl
-left_over table was (Some slot) = refl
+left_over : (parts : Parts) (table : ℕ) (was own : Option Slot) → row_left (row_left None (option_map (write_of parts table) was)) (option_map (write_of parts table) own)
+    ≡ row_left None (option_map (write_of parts table) (option_or own was))
+left_over parts table was None = refl
+left_over parts table was (Some slot) = refl
 
-pub commit_shown : (table : ℕ) (done : Done) (xn : ℕ) (slots : List Slot) → IsInFront done xn slots
-    → row_left (row_shown table done slots) (option_map (write_of table) (first_of xn slots)) ≡ row_shown table (done_with xn done) slots
-commit_shown table done xn slots front =
-    left_over table (first_done done slots) (first_of xn slots)
-    ∙ ap (λ (o : Option Slot). row_left None (option_map (write_of table) o)) (sym
+pub commit_shown : (parts : Parts) (table : ℕ) (done : Done) (xn : ℕ) (slots : List Slot) → IsInFront done xn slots
+    → row_left (row_shown parts table done slots) (option_map (write_of parts table) (first_of xn slots)) ≡ row_shown parts table (done_with xn done) slots
+commit_shown parts table done xn slots front =
+    left_over parts table (first_done done slots) (first_of xn slots)
+    ∙ ap (λ (o : Option Slot). row_left None (option_map (write_of parts table) o)) (sym
     (subst (λ (l : List Slot). first_done (done_with xn done) l ≡ option_or (first_of xn l) (first_done done l)) (sym front.split)
     (front_first done xn front.before front.behind front.not_done front.others)))
 
-pub none_shown : (table : ℕ) (done : Done) (slots : List Slot) → HasNoneDone done slots → row_shown table done slots ≡ None
-none_shown table done slots none = ap (λ (o : Option Slot). row_left None (option_map (write_of table) o)) (none_done done slots none)
+pub none_shown : (parts : Parts) (table : ℕ) (done : Done) (slots : List Slot) → HasNoneDone done slots → row_shown parts table done slots ≡ None
+none_shown parts table done slots none = ap (λ (o : Option Slot). row_left None (option_map (write_of parts table) o)) (none_done done slots none)

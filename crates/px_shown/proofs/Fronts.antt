@@ -70,48 +70,51 @@ in_front_left done xn (slot ∷ slots) (suc from) count front = ⊎_elim
     in_front_none done xn (left_of (slot ∷ slots) (suc from) count) (none_left (λ (s : Slot). (s.xn == xn) ≡ false) (slot ∷ slots) (suc from) count none))
     (parts_first done xn slot slots front.before front.behind front.split front.not_done front.others)
 
--- ---- links don't count
+-- ---- what counts is who wrote the slots
 
-both_alike : (a b : Slot) (others rest : List Slot) → a ≡ b → others ≡ rest → a ∷ others ≡ b ∷ rest
-both_alike a b others rest head tail = cc
+abbrev pub writers : List Slot → List ℕ
+writers slots = map (λ slot. slot.xn) slots
 
--- slots that look like two lists, one after the other, are two such lists
-record IsSplit (slots before behind : List Slot) : Type 0 where
+pub writers_seen : (slots : List Slot) → writers (map seen slots) ≡ writers slots
+writers_seen [] = refl
+writers_seen (slot ∷ slots) = ap (λ (l : List ℕ). slot.xn ∷ l) (writers_seen slots)
+
+-- slots of writers that are two lists, one after the other, are two such lists
+record IsSplit (slots : List Slot) (before behind : List ℕ) : Type 0 where
   pub front : List Slot
   pub rest : List Slot
   pub split : slots ≡ front ++ rest
-  pub front_is : map seen front ≡ before
-  pub rest_is : map seen rest ≡ behind
+  pub front_is : writers front ≡ before
+  pub rest_is : writers rest ≡ behind
 
-split_cons : (slot first : Slot) (slots before behind : List Slot) → seen slot ≡ first → IsSplit slots before behind → IsSplit (slot ∷ slots) (first ∷ before) behind
+split_cons : (slot : Slot) (first : ℕ) (slots : List Slot) (before behind : List ℕ) → slot.xn ≡ first → IsSplit slots before behind → IsSplit (slot ∷ slots) (first ∷ before) behind
 split_cons slot first slots before behind head s = record {
   front = slot ∷ s.front;
   rest = s.rest;
   split = ap (λ (l : List Slot). slot ∷ l) s.split;
-  front_is = both_alike (seen slot) first (map seen s.front) before head s.front_is;
+  front_is = ap (λ (n : ℕ). n ∷ writers s.front) head ∙ ap (λ (l : List ℕ). first ∷ l) s.front_is;
   rest_is = s.rest_is;
 }
 
-map_split : (slots before behind : List Slot) → map seen slots ≡ before ++ behind → IsSplit slots before behind
+map_split : (slots : List Slot) (before behind : List ℕ) → writers slots ≡ before ++ behind → IsSplit slots before behind
 map_split slots [] behind split = record { front = []; rest = slots; split = refl; front_is = refl; rest_is = split }
 map_split [] (first ∷ before) behind split = let no : ⊥ = cc in absurd no
 map_split (slot ∷ slots) (first ∷ before) behind split =
-    let tail : map seen slots ≡ before ++ behind = cc in
-    let head : seen slot ≡ first = cc in
+    let tail : writers slots ≡ before ++ behind = cc in
+    let head : slot.xn ≡ first = cc in
     split_cons slot first slots before behind head (map_split slots before behind tail)
 
-all_unseen : (P : ℕ → Type 0) (slots : List Slot) → All (λ (s : Slot). P s.xn) (map seen slots) → All (λ (s : Slot). P s.xn) slots
-all_unseen P [] all = All-nil (λ (s : Slot). P s.xn)
-all_unseen P (slot ∷ slots) all =
-    All-cons (λ (s : Slot). P s.xn) slot slots (All-head (λ (s : Slot). P s.xn) (seen slot) (map seen slots) all) (all_unseen P slots (All-tail (λ (s : Slot). P s.xn) (seen slot) (map seen slots) all))
+all_of_writers : (P : ℕ → Type 0) (slots : List Slot) → All P (writers slots) → All (λ (s : Slot). P s.xn) slots
+all_of_writers P [] all = All-nil (λ (s : Slot). P s.xn)
+all_of_writers P (slot ∷ slots) all =
+    All-cons (λ (s : Slot). P s.xn) slot slots (All-head P slot.xn (writers slots) all) (all_of_writers P slots (All-tail P slot.xn (writers slots) all))
 
-all_alike : (P : ℕ → Type 0) (a b : List Slot) → map seen b ≡ map seen a → All (λ (s : Slot). P s.xn) a → All (λ (s : Slot). P s.xn) b
-all_alike P a b alike all =
-    all_unseen P b (subst (λ (l : List Slot). All (λ (s : Slot). P s.xn) l) (sym alike) (All-map (λ (s : Slot). P s.xn) seen a all))
+pub all_alike : (P : ℕ → Type 0) (a b : List Slot) → writers b ≡ writers a → All (λ (s : Slot). P s.xn) a → All (λ (s : Slot). P s.xn) b
+all_alike P a b alike all = all_of_writers P b (subst (All P) (sym alike) (All-map P (λ (s : Slot). s.xn) a all))
 
-pub in_front_alike : (done : Done) (xn : ℕ) (a b : List Slot) → map seen b ≡ map seen a → IsInFront done xn a → IsInFront done xn b
-in_front_alike done xn a b alike front =
-    let s = map_split b (map seen front.before) (map seen front.behind) (alike ∙ ap (map seen) front.split ∙ map-append seen front.before front.behind) in
+pub in_front_same : (done : Done) (xn : ℕ) (a b : List Slot) → writers b ≡ writers a → IsInFront done xn a → IsInFront done xn b
+in_front_same done xn a b alike front =
+    let s = map_split b (writers front.before) (writers front.behind) (alike ∙ ap writers front.split ∙ map-append (λ (slot : Slot). slot.xn) front.before front.behind) in
     record {
       before = s.front;
       behind = s.rest;
@@ -119,6 +122,9 @@ in_front_alike done xn a b alike front =
       not_done = all_alike (λ n. done n ≡ false) front.before s.front s.front_is front.not_done;
       others = all_alike (λ n. (n == xn) ≡ false) front.behind s.rest s.rest_is front.others;
     }
+
+pub in_front_alike : (done : Done) (xn : ℕ) (a b : List Slot) → map seen b ≡ map seen a → IsInFront done xn a → IsInFront done xn b
+in_front_alike done xn a b alike front = in_front_same done xn a b (sym (writers_seen b) ∙ ap writers alike ∙ writers_seen a) front
 
 -- ---- a commit of another one
 

@@ -8,3 +8,4 @@ pub mod Showing
 pub mod Writing
 pub mod Unlinking
 pub mod FirstRow
+pub mod Moving

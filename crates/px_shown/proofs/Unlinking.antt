@@ -1,5 +1,5 @@
 -- What is told by chains, after an unlink.
-use Rattle.std.proofs.Common.{◌≡◌, ℕ, ◌+◌, ◌≤◌, ◌==◌, true, List, ◌++◌, map, take, drop, length, Option, None, option_map, sym, ap, subst, ◌∙◌}
+use Rattle.std.proofs.Common.{◌≡◌, ℕ, ◌+◌, ◌≤◌, ◌==◌, true, List, ◌++◌, map, take, drop, length, Option, option_map, sym, ap, subst, ◌∙◌}
 use Rattle.std.specs.Prelude.{Contains}
 use Rattle.std.specs.List.{take-map, drop-map}
 use Rattle.std.proofs.lemmas.List.{map-append}
@@ -8,12 +8,12 @@ use Rattle.px_chain.specs.Sound.{IsUsedRow, key_of}
 use Rattle.px_model.specs.declared.row.Row.{Row}
 use Rattle.px_model.specs.declared.write.Write.{Write}
 use Rattle.px_model.specs.Rows.{Key, row_at}
-use Rattle.px_machine_laws.specs.Seen.{row_left}
 use Rattle.px_shown.specs.Tables.{Tables, Layouts, AreSound, slots_of_row}
-use Rattle.px_shown.specs.Shown.{Done, write_of, row_shown, AreToldByChains, Shows}
+use Rattle.px_shown.specs.Parts.{Parts}
+use Rattle.px_shown.specs.Shown.{AreToldByChains, Done, Shows, row_shown, slot_shown, write_of}
 use Rattle.px_shown.specs.Writes.{HasNoneOf, HasNoneDone, IsInFront, AreInFront, AreWritesOf}
 use Rattle.px_shown.specs.Changes.{with_unlink, layouts_unlinked, left_of}
-use Rattle.px_shown.proofs.Firsts.{left_first, left_covered}
+use Rattle.px_shown.proofs.Firsts.{left_covered, left_first, one_slot_one_row, shown_of}
 use Rattle.px_shown.proofs.Fronts.{in_front_left}
 use Rattle.px_shown.proofs.Told.{IsBlind, told_stays}
 use Rattle.px_shown.proofs.Rows.{chains_of, told_by_rows, told_of_rows}
@@ -41,35 +41,37 @@ unlink_told short tables layouts of_chain of_key t row from count sound used som
     (told_by_rows short tables layouts of_chain of_key sound told)
     (ap (of_chain t) (left_mapped (tables t).slot ((layouts t).chain row) from count) ∙ same))
 
-pub unlink_shows : (short : ℕ) (tables : Tables) (layouts : Layouts) (done : Done) (rows : List Row) (t row from count : ℕ)
+pub unlink_shows : (parts : Parts) (short : ℕ) (tables : Tables) (layouts : Layouts) (done : Done) (rows : List Row) (t row from count : ℕ)
     → AreSound short tables layouts → IsUsedRow (tables t) row → 1 ≤ count → from + count ≤ length ((layouts t).chain row)
-    → row_shown t done (left_of (slots_of_row (tables t) (layouts t) row) from count) ≡ row_shown t done (slots_of_row (tables t) (layouts t) row)
-    → Shows tables layouts done rows → Shows (with_unlink tables layouts t row from count) (layouts_unlinked layouts t row from count) done rows
-unlink_shows short tables layouts done rows t row from count sound used some within same shows = record {
-  order = shows.order;
-  keys = unlink_told short tables layouts (λ n slots. row_shown n done slots) (λ key. row_at key rows) t row from count sound used some within (shown_blind done) same shows.keys;
-}
+    → slot_shown done (left_of (slots_of_row (tables t) (layouts t) row) from count) ≡ slot_shown done (slots_of_row (tables t) (layouts t) row)
+    → Shows parts tables layouts done rows → Shows parts (with_unlink tables layouts t row from count) (layouts_unlinked layouts t row from count) done rows
+unlink_shows parts short tables layouts done rows t row from count sound used some within same shows =
+    let slots = slots_of_row (tables t) (layouts t) row in
+    record {
+      order = shows.order;
+      keys = unlink_told short tables layouts (λ n others. row_shown parts n done others) (λ key. row_at key rows) t row from count sound used some within (shown_blind parts done)
+          (one_slot_one_row parts t done slots (left_of slots from count) same) shows.keys;
+    }
 
 -- ---- what may be unlinked
 
-pub none_of_them_done : (table : ℕ) (done : Done) (slots : List Slot) (from count : ℕ) → HasNoneDone done (take count (drop from slots))
-    → row_shown table done (left_of slots from count) ≡ row_shown table done slots
-none_of_them_done table done slots from count none = ap (λ (o : Option Slot). row_left None (option_map (write_of table) o)) (left_first done slots from count none)
+pub none_of_them_done : (done : Done) (slots : List Slot) (from count : ℕ) → HasNoneDone done (take count (drop from slots))
+    → slot_shown done (left_of slots from count) ≡ slot_shown done slots
+none_of_them_done done slots from count none = ap shown_of (left_first done slots from count none)
 
-pub one_in_front_done : (table : ℕ) (done : Done) (slots : List Slot) (slot : Slot) (from count : ℕ) → Contains (take from slots) slot → done slot.xn ≡ true
-    → row_shown table done (left_of slots from count) ≡ row_shown table done slots
-one_in_front_done table done slots slot from count there is =
-    ap (λ (o : Option Slot). row_left None (option_map (write_of table) o)) (left_covered done slots slot from count there is)
+pub one_in_front_done : (done : Done) (slots : List Slot) (slot : Slot) (from count : ℕ) → Contains (take from slots) slot → done slot.xn ≡ true
+    → slot_shown done (left_of slots from count) ≡ slot_shown done slots
+one_in_front_done done slots slot from count there is = ap shown_of (left_covered done slots slot from count there is)
 
 -- ---- what others wrote
 
-pub unlink_written : (short : ℕ) (tables : Tables) (layouts : Layouts) (xn : ℕ) (writes : List Write) (t row from count : ℕ)
+pub unlink_written : (parts : Parts) (short : ℕ) (tables : Tables) (layouts : Layouts) (xn : ℕ) (writes : List Write) (t row from count : ℕ)
     → AreSound short tables layouts → IsUsedRow (tables t) row → 1 ≤ count → from + count ≤ length ((layouts t).chain row)
     → HasNoneOf xn (take count (drop from (slots_of_row (tables t) (layouts t) row)))
-    → AreWritesOf xn tables layouts writes → AreWritesOf xn (with_unlink tables layouts t row from count) (layouts_unlinked layouts t row from count) writes
-unlink_written short tables layouts xn writes t row from count sound used some within none wrote =
-    unlink_told short tables layouts (written xn) (last_in writes) t row from count sound used some within (written_blind xn)
-    (ap (option_map (write_of t)) (left_first (λ n. n == xn) (slots_of_row (tables t) (layouts t) row) from count none)) wrote
+    → AreWritesOf parts xn tables layouts writes → AreWritesOf parts xn (with_unlink tables layouts t row from count) (layouts_unlinked layouts t row from count) writes
+unlink_written parts short tables layouts xn writes t row from count sound used some within none wrote =
+    unlink_told short tables layouts (written parts xn) (last_in writes) t row from count sound used some within (written_blind parts xn)
+    (ap (option_map (write_of parts t)) (left_first (λ n. n == xn) (slots_of_row (tables t) (layouts t) row) from count none)) wrote
 
 pub unlink_in_front : (short : ℕ) (tables : Tables) (layouts : Layouts) (done : Done) (xn : ℕ) (t row from count : ℕ)
     → AreSound short tables layouts → IsUsedRow (tables t) row → 1 ≤ count → from + count ≤ length ((layouts t).chain row)

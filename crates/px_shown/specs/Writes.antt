@@ -4,6 +4,7 @@ use Rattle.px_cells.specs.declared.slot.Slot.{Slot}
 use Rattle.px_chain.specs.Sound.{IsUsedRow}
 use Rattle.px_model.specs.declared.write.Write.{Write}
 use Rattle.px_machine_laws.specs.Seen.{last_of_key}
+use Rattle.px_shown.specs.Parts.{Parts}
 use Rattle.px_shown.specs.Tables.{Tables, Layouts, slots_of_row}
 use Rattle.px_shown.specs.Shown.{Done, AreToldByChains, write_of}
 
@@ -32,6 +33,6 @@ abbrev pub AreInFront : Done → (xn : ℕ) → Tables → Layouts → Type 0
 AreInFront done xn tables layouts = (t row : ℕ) → IsUsedRow (tables t) row → IsInFront done xn (slots_of_row (tables t) (layouts t) row)
 
 -- of each key the last of these writes is what the transaction wrote last in its chain
-abbrev pub AreWritesOf : (xn : ℕ) → Tables → Layouts → List Write → Type 0
-AreWritesOf xn tables layouts writes =
-    AreToldByChains tables layouts (λ t slots. option_map (write_of t) (first_of xn slots)) (λ key. last_of_key key writes)
+abbrev pub AreWritesOf : Parts → (xn : ℕ) → Tables → Layouts → List Write → Type 0
+AreWritesOf parts xn tables layouts writes =
+    AreToldByChains tables layouts (λ t slots. option_map (write_of parts t) (first_of xn slots)) (λ key. last_of_key key writes)

@@ -1,4 +1,4 @@
-ghost use Rattle.std.specs.Prelude.{◌≡◌, ◌≢◌, ◌≤◌, ◌+◌, ◌++◌, ◌⊎◌, ◌↔◌, [], ◌∷◌, ℕ, List, All, Contains, None, Some, drop, false, length, take, true};
+ghost use Rattle.std.specs.Prelude.{◌≡◌, ◌≢◌, ◌≤◌, ◌+◌, ◌++◌, ◌⊎◌, ◌↔◌, [], ◌∷◌, ℕ, List, All, Contains, None, Some, drop, false, length, option_map, take, true};
 ghost use Rattle.px_cells.specs.declared.header.Header.{Header};
 ghost use Rattle.px_cells.specs.declared.slot.Slot.{Slot};
 ghost use Rattle.px_cells.specs.declared.slot.SlotState.TheVariants as state;
@@ -11,48 +11,69 @@ ghost use Rattle.px_model_laws.specs.Keys.{row_written};
 ghost use Rattle.px_machine_laws.specs.Seen.{last_of_key};
 ghost use Rattle.px_shown.specs.Changes.{IsLink, layouts_unlinked, left_of, with_link, with_unlink};
 ghost use Rattle.px_shown.specs.Example.{done_up_to, one_place, row_with, versions};
-ghost use Rattle.px_shown.specs.Shown.{Done, Shows, done_with, first_done, row_of, row_shown, write_of};
+ghost use Rattle.px_shown.specs.Moves.{MayMove, with_move};
+ghost use Rattle.px_shown.specs.Parts.{AgreeInChains, Parts};
+ghost use Rattle.px_shown.specs.Shown.{Done, Shows, done_with, first_done, row_of, row_shown, slot_shown, write_of};
 ghost use Rattle.px_shown.specs.Tables.{AreSound, Layouts, Tables, slots_of_row, with_layout};
 ghost use Rattle.px_shown.specs.Writes.{AreInFront, AreWritesOf, HasNoneDone, HasNoneOf, IsInFront};
 
 /// The same cells show one list of rows.
 pub fn rows_shown_are_one()
-    ensures { (tables : Tables) (layouts : Layouts) (done : Done) (a b : List Row)
-        → Shows tables layouts done a → Shows tables layouts done b → a ≡ b }
+    ensures { (parts : Parts) (tables : Tables) (layouts : Layouts) (done : Done) (a b : List Row)
+        → Shows parts tables layouts done a → Shows parts tables layouts done b → a ≡ b }
 {}
 
 /// Tables without places show no rows.
 pub fn no_cells_show_no_rows()
-    ensures { (tables : Tables) (layouts : Layouts) (done : Done) → ((t : ℕ) → (tables t).header ≡ no_places) → Shows tables layouts done [] }
+    ensures { (parts : Parts) (tables : Tables) (layouts : Layouts) (done : Done) → ((t : ℕ) → (tables t).header ≡ no_places) → Shows parts tables layouts done [] }
 {}
 
-/// Of a chain what the newest version that is done wrote is shown; nothing where none is done.
+/// Of a chain what the newest version that is done wrote is shown; nothing where none is done. What is shown is the row of one
+/// slot, which the data logs have no part in choosing.
 pub fn the_newest_done_is_shown()
-    ensures newest { (t : ℕ) (done : Done) (before behind : List Slot) (slot : Slot) → HasNoneDone done before → done slot.xn ≡ true
-        → row_shown t done (before ++ slot ∷ behind) ≡ row_written (write_of t slot) }
-    ensures none { (t : ℕ) (done : Done) (slots : List Slot) → HasNoneDone done slots → row_shown t done slots ≡ None }
+    ensures newest { (parts : Parts) (t : ℕ) (done : Done) (before behind : List Slot) (slot : Slot) → HasNoneDone done before → done slot.xn ≡ true
+        → row_shown parts t done (before ++ slot ∷ behind) ≡ row_written (write_of parts t slot) }
+    ensures none { (parts : Parts) (t : ℕ) (done : Done) (slots : List Slot) → HasNoneDone done slots → row_shown parts t done slots ≡ None }
+    ensures slot { (parts : Parts) (t : ℕ) (done : Done) (slots : List Slot)
+        → row_shown parts t done slots ≡ option_map (row_of parts t) (slot_shown done slots) }
 {}
 
-/// Of a chain in which 9 deleted what 5 wrote over what 3 wrote.
+/// A body that fits its slot is the slot's short part; a longer one goes on with the bytes that the slot names in a data log.
+pub fn a_long_body_goes_on_in_a_log()
+    ensures short { (parts : Parts) (t : ℕ) (slot : Slot) → slot.log ≡ 0 → (row_of parts t slot).body ≡ slot.short }
+    ensures long { (parts : Parts) (t : ℕ) (slot : Slot) → slot.log ≢ 0
+        → (row_of parts t slot).body ≡ slot.short ++ parts slot.log slot.place }
+{}
+
+/// Of a chain in which 9 deleted what 5 wrote over what 3 wrote, whatever lies in the data logs.
 pub fn a_chain_at_four_moments()
-    ensures nothing_done { row_shown 2 (done_up_to 2) versions ≡ None }
-    ensures oldest_done { row_shown 2 (done_up_to 3) versions ≡ Some (row_with (97 ∷ [])) }
-    ensures newer_done { row_shown 2 (done_up_to 5) versions ≡ Some (row_with (98 ∷ [])) }
-    ensures all_done { row_shown 2 (done_up_to 9) versions ≡ None }
+    ensures nothing_done { (parts : Parts) → row_shown parts 2 (done_up_to 2) versions ≡ None }
+    ensures oldest_done { (parts : Parts) → row_shown parts 2 (done_up_to 3) versions ≡ Some (row_with (97 ∷ [])) }
+    ensures newer_done { (parts : Parts) → row_shown parts 2 (done_up_to 5) versions ≡ Some (row_with (98 ∷ [])) }
+    ensures all_done { (parts : Parts) → row_shown parts 2 (done_up_to 9) versions ≡ None }
 {}
 
 /// The first row of a store: once its transaction is done, it is what the cells show.
 pub fn a_first_row_is_shown()
-    ensures { (short : ℕ) (tables : Tables) (done : Done) (t : ℕ) (slot : Slot) → ((n : ℕ) → (tables n).header ≡ no_places)
+    ensures { (parts : Parts) (short : ℕ) (tables : Tables) (done : Done) (t : ℕ) (slot : Slot) → ((n : ℕ) → (tables n).header ≡ no_places)
         → IsStored short slot → slot.state ≡ state.Row → slot.row ≡ 1 → slot.next ≡ 0 → done slot.xn ≡ false
-        → Shows (with_link tables t one_place slot) (with_layout (λ n. no_layout) t (linked no_layout 1 1)) (done_with slot.xn done) (row_of t slot ∷ []) }
+        → Shows parts (with_link tables t one_place slot) (with_layout (λ n. no_layout) t (linked no_layout 1 1)) (done_with slot.xn done) (row_of parts t slot ∷ []) }
 {}
 
 /// What is done is asked only of numbers in the chains.
 pub fn only_numbers_in_chains_are_asked()
-    ensures { (tables : Tables) (layouts : Layouts) (done other : Done) (rows : List Row)
+    ensures { (parts : Parts) (tables : Tables) (layouts : Layouts) (done other : Done) (rows : List Row)
         → ((t row : ℕ) → IsUsedRow (tables t) row → All (λ slot. done slot.xn ≡ other slot.xn) (slots_of_row (tables t) (layouts t) row))
-        → Shows tables layouts done rows → Shows tables layouts other rows }
+        → Shows parts tables layouts done rows → Shows parts tables layouts other rows }
+{}
+
+/// The data logs are asked only at the references of slots in the chains: where two hold the same bytes there, the tables show the
+/// same rows, and tell the same writes of a transaction.
+pub fn only_references_in_chains_are_asked()
+    ensures references { (parts others : Parts) (tables : Tables) (layouts : Layouts) (done : Done) (rows : List Row)
+        → AgreeInChains parts others tables layouts → Shows parts tables layouts done rows → Shows others tables layouts done rows }
+    ensures writes { (parts others : Parts) (xn : ℕ) (tables : Tables) (layouts : Layouts) (writes : List Write)
+        → AgreeInChains parts others tables layouts → AreWritesOf parts xn tables layouts writes → AreWritesOf others xn tables layouts writes }
 {}
 
 /// Tables without places are sound, and a link and an unlink leave all tables so.
@@ -68,25 +89,25 @@ pub fn tables_stay_sound()
 
 /// A version that isn't done, linked over sound cells, leaves the rows that are shown as they are, whether it begins a row or not.
 pub fn what_is_not_done_shows_nothing()
-    ensures { (short : ℕ) (tables : Tables) (layouts : Layouts) (done : Done) (rows : List Row) (t : ℕ) (header : Header) (slot : Slot) (after : Layout)
+    ensures { (parts : Parts) (short : ℕ) (tables : Tables) (layouts : Layouts) (done : Done) (rows : List Row) (t : ℕ) (header : Header) (slot : Slot) (after : Layout)
         → AreSound short tables layouts → IsStored short slot → IsLink (tables t) (layouts t) header slot after
         → done slot.xn ≡ false
-        → Shows tables layouts done rows → Shows (with_link tables t header slot) (with_layout layouts t after) done rows }
+        → Shows parts tables layouts done rows → Shows parts (with_link tables t header slot) (with_layout layouts t after) done rows }
 {}
 
 /// Once a transaction counts as done whose versions stand in front of all that is done, the cells show the rows after its writes.
 /// What another transaction wrote still stands in front of all that is done, where no chain has versions of both; so where they
 /// wrote no key in common.
 pub fn a_commit_shows_its_writes()
-    ensures shows { (tables : Tables) (layouts : Layouts) (done : Done) (xn : ℕ) (rows : List Row) (writes : List Write)
-        → AreInFront done xn tables layouts → AreWritesOf xn tables layouts writes
-        → Shows tables layouts done rows → Shows tables layouts (done_with xn done) (after rows writes) }
+    ensures shows { (parts : Parts) (tables : Tables) (layouts : Layouts) (done : Done) (xn : ℕ) (rows : List Row) (writes : List Write)
+        → AreInFront done xn tables layouts → AreWritesOf parts xn tables layouts writes
+        → Shows parts tables layouts done rows → Shows parts tables layouts (done_with xn done) (after rows writes) }
     ensures in_front { (tables : Tables) (layouts : Layouts) (done : Done) (xn other : ℕ)
         → ((t row : ℕ) → IsUsedRow (tables t) row
         → HasNoneOf xn (slots_of_row (tables t) (layouts t) row) ⊎ HasNoneOf other (slots_of_row (tables t) (layouts t) row))
         → AreInFront done other tables layouts → AreInFront (done_with xn done) other tables layouts }
-    ensures in_front_elsewhere { (tables : Tables) (layouts : Layouts) (done : Done) (xn other : ℕ) (writes others : List Write)
-        → AreWritesOf xn tables layouts writes → AreWritesOf other tables layouts others
+    ensures in_front_elsewhere { (parts : Parts) (tables : Tables) (layouts : Layouts) (done : Done) (xn other : ℕ) (writes others : List Write)
+        → AreWritesOf parts xn tables layouts writes → AreWritesOf parts other tables layouts others
         → ((key : Key) → (last_of_key key writes ≡ None) ⊎ (last_of_key key others ≡ None))
         → AreInFront done other tables layouts → AreInFront (done_with xn done) other tables layouts }
 {}
@@ -95,18 +116,18 @@ pub fn a_commit_shows_its_writes()
 /// transaction wrote stays in front of all that is done, as long as the version that is linked isn't done. In one chain this
 /// holds in both directions.
 pub fn a_write_that_is_linked()
-    ensures none { (xn : ℕ) (tables : Tables) (layouts : Layouts)
-        → ((t row : ℕ) → IsUsedRow (tables t) row → HasNoneOf xn (slots_of_row (tables t) (layouts t) row)) → AreWritesOf xn tables layouts [] }
+    ensures none { (parts : Parts) (xn : ℕ) (tables : Tables) (layouts : Layouts)
+        → ((t row : ℕ) → IsUsedRow (tables t) row → HasNoneOf xn (slots_of_row (tables t) (layouts t) row)) → AreWritesOf parts xn tables layouts [] }
     ensures none_in_front { (done : Done) (xn : ℕ) (tables : Tables) (layouts : Layouts)
         → ((t row : ℕ) → IsUsedRow (tables t) row → HasNoneOf xn (slots_of_row (tables t) (layouts t) row)) → AreInFront done xn tables layouts }
-    ensures own { (short : ℕ) (tables : Tables) (layouts : Layouts) (writes : List Write) (t : ℕ) (header : Header) (slot : Slot) (after : Layout)
+    ensures own { (parts : Parts) (short : ℕ) (tables : Tables) (layouts : Layouts) (writes : List Write) (t : ℕ) (header : Header) (slot : Slot) (after : Layout)
         → AreSound short tables layouts → IsStored short slot → IsLink (tables t) (layouts t) header slot after
-        → AreWritesOf slot.xn tables layouts writes
-        → AreWritesOf slot.xn (with_link tables t header slot) (with_layout layouts t after) (writes ++ write_of t slot ∷ []) }
-    ensures of_others { (short : ℕ) (tables : Tables) (layouts : Layouts) (xn : ℕ) (writes : List Write) (t : ℕ) (header : Header) (slot : Slot) (after : Layout)
+        → AreWritesOf parts slot.xn tables layouts writes
+        → AreWritesOf parts slot.xn (with_link tables t header slot) (with_layout layouts t after) (writes ++ write_of parts t slot ∷ []) }
+    ensures of_others { (parts : Parts) (short : ℕ) (tables : Tables) (layouts : Layouts) (xn : ℕ) (writes : List Write) (t : ℕ) (header : Header) (slot : Slot) (after : Layout)
         → AreSound short tables layouts → IsStored short slot → IsLink (tables t) (layouts t) header slot after
         → slot.xn ≢ xn
-        → AreWritesOf xn tables layouts writes → AreWritesOf xn (with_link tables t header slot) (with_layout layouts t after) writes }
+        → AreWritesOf parts xn tables layouts writes → AreWritesOf parts xn (with_link tables t header slot) (with_layout layouts t after) writes }
     ensures in_front { (short : ℕ) (tables : Tables) (layouts : Layouts) (done : Done) (xn : ℕ) (t : ℕ) (header : Header) (slot : Slot) (after : Layout)
         → AreSound short tables layouts → IsStored short slot → IsLink (tables t) (layouts t) header slot after
         → done slot.xn ≡ false
@@ -117,44 +138,67 @@ pub fn a_write_that_is_linked()
 
 /// A row whose key a transaction didn't write has none of its versions.
 pub fn a_key_that_was_not_written()
-    ensures { (xn : ℕ) (tables : Tables) (layouts : Layouts) (writes : List Write) (t row : ℕ) → AreWritesOf xn tables layouts writes → IsUsedRow (tables t) row
+    ensures { (parts : Parts) (xn : ℕ) (tables : Tables) (layouts : Layouts) (writes : List Write) (t row : ℕ) → AreWritesOf parts xn tables layouts writes → IsUsedRow (tables t) row
         → last_of_key (t, key_of (tables t) row) writes ≡ None → HasNoneOf xn (slots_of_row (tables t) (layouts t) row) }
 {}
 
-/// The cells of an unlink, over sound cells, show the same rows, where what is left of the chain shows what the whole one showed.
+/// The cells of an unlink, over sound cells, show the same rows, where what is left of the chain shows the slot that the whole one
+/// showed. The data logs have no part in that.
 pub fn an_unlink_shows_the_same()
-    ensures { (short : ℕ) (tables : Tables) (layouts : Layouts) (done : Done) (rows : List Row) (t row from count : ℕ)
+    ensures { (parts : Parts) (short : ℕ) (tables : Tables) (layouts : Layouts) (done : Done) (rows : List Row) (t row from count : ℕ)
         → AreSound short tables layouts → IsUsedRow (tables t) row → 1 ≤ count → from + count ≤ length ((layouts t).chain row)
-        → row_shown t done (left_of (slots_of_row (tables t) (layouts t) row) from count) ≡ row_shown t done (slots_of_row (tables t) (layouts t) row)
-        → Shows tables layouts done rows
-        → Shows (with_unlink tables layouts t row from count) (layouts_unlinked layouts t row from count) done rows }
+        → slot_shown done (left_of (slots_of_row (tables t) (layouts t) row) from count) ≡ slot_shown done (slots_of_row (tables t) (layouts t) row)
+        → Shows parts tables layouts done rows
+        → Shows parts (with_unlink tables layouts t row from count) (layouts_unlinked layouts t row from count) done rows }
 {}
 
-/// What is left of a chain shows what the whole one showed: where none of those that go is done; where one that is done stands
-/// in front of them; and where the first that is done is a deletion, and nothing that is left is done.
+/// What is left of a chain shows the slot that the whole one showed: where none of those that go is done; where one that is done
+/// stands in front of them; and where the first that is done is a deletion, and nothing that is left is done.
 pub fn what_may_be_unlinked()
-    ensures not_done { (t : ℕ) (done : Done) (slots : List Slot) (from count : ℕ)
+    ensures not_done { (done : Done) (slots : List Slot) (from count : ℕ)
         → HasNoneDone done (take count (drop from slots))
-        → row_shown t done (left_of slots from count) ≡ row_shown t done slots }
-    ensures older { (t : ℕ) (done : Done) (slots : List Slot) (slot : Slot) (from count : ℕ)
+        → slot_shown done (left_of slots from count) ≡ slot_shown done slots }
+    ensures older { (done : Done) (slots : List Slot) (slot : Slot) (from count : ℕ)
         → Contains (take from slots) slot → done slot.xn ≡ true
-        → row_shown t done (left_of slots from count) ≡ row_shown t done slots }
-    ensures deleted { (t : ℕ) (done : Done) (slots : List Slot) (slot : Slot) (from count : ℕ)
+        → slot_shown done (left_of slots from count) ≡ slot_shown done slots }
+    ensures deleted { (done : Done) (slots : List Slot) (slot : Slot) (from count : ℕ)
         → first_done done slots ≡ Some slot → slot.state ≡ state.Deletion
         → HasNoneDone done (left_of slots from count)
-        → row_shown t done (left_of slots from count) ≡ row_shown t done slots }
+        → slot_shown done (left_of slots from count) ≡ slot_shown done slots }
 {}
 
 /// An unlink of versions that aren't a transaction's leaves its writes as they are; and of whatever versions, what a transaction
 /// wrote stays in front of all that is done.
 pub fn an_unlink_leaves_the_writes_of_others()
-    ensures of_others { (short : ℕ) (tables : Tables) (layouts : Layouts) (xn : ℕ) (writes : List Write) (t row from count : ℕ)
+    ensures of_others { (parts : Parts) (short : ℕ) (tables : Tables) (layouts : Layouts) (xn : ℕ) (writes : List Write) (t row from count : ℕ)
         → AreSound short tables layouts → IsUsedRow (tables t) row → 1 ≤ count → from + count ≤ length ((layouts t).chain row)
         → HasNoneOf xn (take count (drop from (slots_of_row (tables t) (layouts t) row)))
-        → AreWritesOf xn tables layouts writes
-        → AreWritesOf xn (with_unlink tables layouts t row from count) (layouts_unlinked layouts t row from count) writes }
+        → AreWritesOf parts xn tables layouts writes
+        → AreWritesOf parts xn (with_unlink tables layouts t row from count) (layouts_unlinked layouts t row from count) writes }
     ensures in_front { (short : ℕ) (tables : Tables) (layouts : Layouts) (done : Done) (xn : ℕ) (t row from count : ℕ)
         → AreSound short tables layouts → IsUsedRow (tables t) row → 1 ≤ count → from + count ≤ length ((layouts t).chain row)
         → AreInFront done xn tables layouts
         → AreInFront done xn (with_unlink tables layouts t row from count) (layouts_unlinked layouts t row from count) }
+{}
+
+/// Where the part of a slot in a chain was moved to another place in the data logs, the cells stay sound, and show the same rows,
+/// with the same keys. What each transaction wrote stays as it was, in front of all that was done.
+pub fn a_move_shows_the_same()
+    ensures sound { (parts : Parts) (short : ℕ) (tables : Tables) (layouts : Layouts) (t number log place : ℕ)
+        → MayMove parts short tables layouts t number log place
+        → AreSound short tables layouts → AreSound short (with_move tables t number log place) layouts }
+    ensures shows { (parts : Parts) (short : ℕ) (tables : Tables) (layouts : Layouts) (done : Done) (rows : List Row) (t number log place : ℕ)
+        → MayMove parts short tables layouts t number log place
+        → Shows parts tables layouts done rows → Shows parts (with_move tables t number log place) layouts done rows }
+    ensures writes { (parts : Parts) (short : ℕ) (tables : Tables) (layouts : Layouts) (xn : ℕ) (writes : List Write) (t number log place : ℕ)
+        → MayMove parts short tables layouts t number log place
+        → AreWritesOf parts xn tables layouts writes → AreWritesOf parts xn (with_move tables t number log place) layouts writes }
+    ensures in_front { (tables : Tables) (layouts : Layouts) (done : Done) (xn t number log place : ℕ)
+        → AreInFront done xn tables layouts → AreInFront done xn (with_move tables t number log place) layouts }
+    ensures none_of { (tables : Tables) (layouts : Layouts) (xn t number log place n row : ℕ)
+        → HasNoneOf xn (slots_of_row (tables n) (layouts n) row) → HasNoneOf xn (slots_of_row (with_move tables t number log place n) (layouts n) row) }
+    ensures rows { (tables : Tables) (t number log place n row : ℕ)
+        → IsUsedRow (with_move tables t number log place n) row ↔ IsUsedRow (tables n) row }
+    ensures keys { (tables : Tables) (t number log place n row : ℕ)
+        → key_of (with_move tables t number log place n) row ≡ key_of (tables n) row }
 {}

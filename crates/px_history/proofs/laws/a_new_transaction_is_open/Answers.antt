@@ -4,15 +4,15 @@ use Rattle.px_history.proofs.Writing.{stays_open}
 use Rattle.px_history.proofs.laws.a_new_transaction_is_open.Goals as goal
 
 pub returns-clause-is_open : goal.returns-clause-is_open
-returns-clause-is_open c = λ short next rows base store steps xn b h later untold.
-    untold_open short next rows base (told_by steps) store xn (history_agrees short next rows base store steps b h) later untold
+returns-clause-is_open c = λ parts short next rows base store steps xn b h later untold.
+    untold_open parts short next rows base (told_by parts steps) store xn (history_agrees parts short next rows base store steps b h) later untold
 
 pub returns-clause-no_versions : goal.returns-clause-no_versions
-returns-clause-no_versions c = λ short next rows base store steps xn t row b h later untold used.
-    untold_none short next rows base (told_by steps) store xn t row (history_agrees short next rows base store steps b h) later untold used
+returns-clause-no_versions c = λ parts short next rows base store steps xn t row b h later untold used.
+    untold_none parts short next rows base (told_by parts steps) store xn t row (history_agrees parts short next rows base store steps b h) later untold used
 
 pub returns-clause-stays : goal.returns-clause-stays
 returns-clause-stays c = stays_open
 
 pub returns-clause-later : goal.returns-clause-later
-returns-clause-later c = λ short next rows base store steps xn b h its. (history_agrees short next rows base store steps b h).later xn its
+returns-clause-later c = λ parts short next rows base store steps xn b h its. (history_agrees parts short next rows base store steps b h).later xn its

@@ -1,8 +1,7 @@
 use Rattle.std.proofs.Common.{refl}
 use Rattle.px_model.specs.Rows.{key_cmp, same_key}
 use Rattle.px_told.specs.Writes.{rows_in}
-use Rattle.px_told.specs.Writes.{rows_over}
-use Rattle.px_history.proofs.Small.{second_is_one, small_is_base, small_is_one}
+use Rattle.px_history.proofs.Small.{rows_again, second_is_one, second_logged, second_shown, small_is_base, small_is_one}
 use Rattle.px_history.proofs.laws.a_small_history.Goals as goal
 
 pub returns-clause-history : goal.returns-clause-history
@@ -27,5 +26,10 @@ pub returns-clause-second : goal.returns-clause-second
 returns-clause-second c = second_is_one
 
 pub returns-clause-rows_again : goal.returns-clause-rows_again
-unfolding rows_over key_cmp same_key
-returns-clause-rows_again c = refl
+returns-clause-rows_again c = rows_again
+
+pub returns-clause-whole_body : goal.returns-clause-whole_body
+returns-clause-whole_body c = second_shown
+
+pub returns-clause-logged : goal.returns-clause-logged
+returns-clause-logged c = second_logged

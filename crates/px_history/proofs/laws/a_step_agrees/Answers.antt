@@ -5,4 +5,4 @@ pub returns-clause-none : goal.returns-clause-none
 returns-clause-none c = base_agrees
 
 pub returns-clause-step : goal.returns-clause-step
-returns-clause-step c = λ short next rows base store changes step a may. step_agrees short next rows base changes store step a may
+returns-clause-step c = λ parts short next rows base store changes step a may. step_agrees parts short next rows base changes store step a may

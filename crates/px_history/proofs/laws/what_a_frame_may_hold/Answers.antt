@@ -1,5 +1,5 @@
-use Rattle.px_history.proofs.Holding.{step_held}
+use Rattle.px_history.proofs.Holding.{change_held}
 use Rattle.px_history.proofs.laws.what_a_frame_may_hold.Goals as goal
 
 pub returns : goal.returns
-returns c = step_held
+returns c = change_held
