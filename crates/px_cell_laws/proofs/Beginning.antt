@@ -30,47 +30,48 @@ use Rattle.px_shown.proofs.Writing.{nothing_in_front}
 use Rattle.px_cell_laws.specs.Holding.{HoldsChains, if_any, is_rolled_back, newest_first, number_past, variations_in}
 use Rattle.px_cell_laws.proofs.Chained.{all_rows}
 use Rattle.px_cell_laws.proofs.Ends.{standing_past}
+use Rattle.px_shown.specs.Parts.{Parts}
 
-open_by : (m : Machine) (store : Store) (xn : ℕ) → HoldsChains m store → m.base < xn → standing_in m (Some xn) ≡ OpenYet → IsOpen store xn
-open_by m store xn h past is = record {
+open_by : (parts : Parts) (m : Machine) (store : Store) (xn : ℕ) → HoldsChains parts m store → m.base < xn → standing_in m (Some xn) ≡ OpenYet → IsOpen store xn
+open_by parts m store xn h past is = record {
   undone = h.done xn past ∙ ap is_committed is;
   not_over = h.over xn past ∙ ap is_rolled_back is;
 }
 
-pub open_may_commit : (m : Machine) (store : Store) (session : ℕ) (xact : Open) → HoldsChains m store → IsKept m → open_of m session ≡ Some xact
+pub open_may_commit : (parts : Parts) (m : Machine) (store : Store) (session : ℕ) (xact : Open) → HoldsChains parts m store → IsKept m → open_of m session ≡ Some xact
     → IsOpen store (m.base + xact.number)
-open_may_commit m store session xact h k at =
-    open_by m store (m.base + xact.number) h (omega (arith, k.numbered.open_ones.from_one session xact at)) (open_are_open m k.numbered session xact at)
+open_may_commit parts m store session xact h k at =
+    open_by parts m store (m.base + xact.number) h (omega (arith, k.numbered.open_ones.from_one session xact at)) (open_are_open m k.numbered session xact at)
 
-pub unbegun_may_commit : (m : Machine) (store : Store) (xn : ℕ) → HoldsChains m store → IsKept m → m.base + m.begun < xn → IsOpen store xn
-unbegun_may_commit m store xn h k past =
-    open_by m store xn h (omega (arith, past))
+pub unbegun_may_commit : (parts : Parts) (m : Machine) (store : Store) (xn : ℕ) → HoldsChains parts m store → IsKept m → m.base + m.begun < xn → IsOpen store xn
+unbegun_may_commit parts m store xn h k past =
+    open_by parts m store xn h (omega (arith, past))
     (standing_past m xn (omega (arith, past)) ∙ standing_of_none 0 m.ended (xn - m.base) (λ i e at same. omega (arith, k.numbered.given i e at, same, past)))
 
 -- ---- a tidied store
 
 -- one version, done and a row, is what the key had at the opening
-one_row : (base t : ℕ) (done : Done) (slot : Slot) → slot.state ≡ state.Row → done slot.xn ≡ true → slot.xn ≤ base
-    → if_any (of_opening (row_shown t done (slot ∷ []))) ≡ variations_in base t (slot ∷ [])
-one_row base t done slot here is low =
-    let row : Row = row_of t slot in
-    let found : row_shown t done (slot ∷ []) ≡ Some row =
-    ap (λ (b : Bool). row_left None (option_map (write_of t) (cond b (Some slot) None))) is
-    ∙ ap (λ (s : SlotState). row_left None (Some (write_in s t slot))) here in
+one_row : (parts : Parts) (base t : ℕ) (done : Done) (slot : Slot) → slot.state ≡ state.Row → done slot.xn ≡ true → slot.xn ≤ base
+    → if_any (of_opening (row_shown parts t done (slot ∷ []))) ≡ variations_in parts base t (slot ∷ [])
+one_row parts base t done slot here is low =
+    let row : Row = row_of parts t slot in
+    let found : row_shown parts t done (slot ∷ []) ≡ Some row =
+    ap (λ (b : Bool). row_left None (option_map (write_of parts t) (cond b (Some slot) None))) is
+    ∙ ap (λ (s : SlotState). row_left None (Some (write_in parts s t slot))) here in
     let number : number_past base slot.xn ≡ None = ap (λ (b : Bool). cond b None (Some slot.xn)) (le-leb slot.xn base low) in
     ap (λ (o : Option Row). if_any (of_opening o)) found
-    ∙ sym (ap (λ (xn : Option ℕ). Some (by xn (write_of t slot) ∷ [])) number
-    ∙ ap (λ (s : SlotState). Some (by None (write_in s t slot) ∷ [])) here)
+    ∙ sym (ap (λ (xn : Option ℕ). Some (by xn (write_of parts t slot) ∷ [])) number
+    ∙ ap (λ (s : SlotState). Some (by None (write_in parts s t slot) ∷ [])) here)
 
-tidied_row : (rows : List Row) (base : ℕ) (store : Store) (t row : ℕ) → IsOneRow store.done (versions_of store t row)
+tidied_row : (parts : Parts) (rows : List Row) (base : ℕ) (store : Store) (t row : ℕ) → IsOneRow store.done (versions_of store t row)
     → All (λ slot. slot.xn ≤ base) (versions_of store t row)
-    → row_at (t, key_of (store.tables t) row) rows ≡ row_shown t store.done (versions_of store t row)
-    → if_any (of_opening (row_at (t, key_of (store.tables t) row) rows)) ≡ variations_in base t (versions_of store t row)
-tidied_row rows base store t row one low shown =
+    → row_at (t, key_of (store.tables t) row) rows ≡ row_shown parts t store.done (versions_of store t row)
+    → if_any (of_opening (row_at (t, key_of (store.tables t) row) rows)) ≡ variations_in parts base t (versions_of store t row)
+tidied_row parts rows base store t row one low shown =
     let below : All (λ (s : Slot). s.xn ≤ base) (one.slot ∷ []) = All-same (λ (s : Slot). s.xn ≤ base) (one.slot ∷ []) (versions_of store t row) (sym one.alone) low in
-    ap (λ (o : Option Row). if_any (of_opening o)) (shown ∙ ap (row_shown t store.done) one.alone)
-    ∙ one_row base t store.done one.slot one.here one.its_done (All-head (λ (s : Slot). s.xn ≤ base) one.slot [] below)
-    ∙ ap (variations_in base t) (sym one.alone)
+    ap (λ (o : Option Row). if_any (of_opening o)) (shown ∙ ap (row_shown parts t store.done) one.alone)
+    ∙ one_row parts base t store.done one.slot one.here one.its_done (All-head (λ (s : Slot). s.xn ≤ base) one.slot [] below)
+    ∙ ap (variations_in parts base t) (sym one.alone)
 
 fresh_newest : (tables short : ℕ) (rows : List Row) (before base : ℕ) (key : Key)
     → newest_first (fresh tables short rows before base) key ≡ if_any (of_opening (row_at key rows))
@@ -81,20 +82,20 @@ fresh_newest tables short rows before base key =
     at_most_one None = refl
     at_most_one (Some row) = refl
 
-pub tidied_holds : (tables short : ℕ) (rows : List Row) (before base : ℕ) (store : Store) → AreSound short store.tables store.layouts
-    → IsTidied store → Shows store.tables store.layouts store.done rows
+pub tidied_holds : (parts : Parts) (tables short : ℕ) (rows : List Row) (before base : ℕ) (store : Store) → AreSound short store.tables store.layouts
+    → IsTidied store → Shows parts store.tables store.layouts store.done rows
     → ((t row : ℕ) → IsUsedRow (store.tables t) row → All (λ slot. slot.xn ≤ base) (versions_of store t row))
     → ((xn : ℕ) → base < xn → IsOpen store xn)
-    → HoldsChains (fresh tables short rows before base) store
+    → HoldsChains parts (fresh tables short rows before base) store
 unfolding fresh
-tidied_holds tables short rows before base store sound tidied shows low past =
+tidied_holds parts tables short rows before base store sound tidied shows low past =
     let nobody : (xn : ℕ) → base < xn → standing_in (fresh tables short rows before base) (Some xn) ≡ OpenYet =
     λ xn above. ap (λ (b : Bool). cond b Before OpenYet) (lt-leb xn base above) in
     record {
       sound = sound;
       chains = record {
         of_row = λ t row used. fresh_newest tables short rows before base (t, key_of (store.tables t) row)
-            ∙ tidied_row rows base store t row (tidied.each t row used) (low t row used) (shows.keys.of_row t row used);
+            ∙ tidied_row parts rows base store t row (tidied.each t row used) (low t row used) (shows.keys.of_row t row used);
         of_none = λ key none. fresh_newest tables short rows before base key ∙ ap (λ (o : Option Row). if_any (of_opening o)) (shows.keys.of_none key none);
       };
       found = all_rows (λ (slot : Slot). slot.xn ≤ base → store.done slot.xn ≡ true) short store sound (λ t row used.

@@ -27,6 +27,7 @@ use Rattle.px_xacts_laws.specs.Mirrors.{outcome_of}
 use Rattle.px_cell_laws.specs.Holding.{HoldsChains, if_any, is_rolled_back, newest_first, variations_in}
 use Rattle.px_cell_laws.specs.Writing.{is_end}
 use Rattle.px_cell_laws.proofs.Ends.{KeepsBase, calls_keep_base, calls_keep_ended, commit_ends, no_entry, rollback_ends}
+use Rattle.px_shown.specs.Parts.{Parts}
 
 pub same_standing : (m n : Machine) (xn : Option ℕ) → n.base ≡ m.base → n.ended ≡ m.ended → standing_in n xn ≡ standing_in m xn
 same_standing m n None base ended = refl
@@ -40,58 +41,58 @@ pub found_of : (store : Store) (base other : ℕ) → other ≡ base → ((t row
 found_of store base other same found t row =
     subst (λ (b : ℕ). All (λ (slot : Slot). slot.xn ≤ b → store.done slot.xn ≡ true) (versions_of store t row)) (sym same) (found t row)
 
-pub same_chains : (m n : Machine) (store : Store) → HoldsChains m store → n.base ≡ m.base → ((key : Key) → chain n key ≡ chain m key)
-    → AreToldByChains store.tables store.layouts (variations_in n.base) (newest_first n)
-same_chains m n store h base same = record {
+pub same_chains : (parts : Parts) (m n : Machine) (store : Store) → HoldsChains parts m store → n.base ≡ m.base → ((key : Key) → chain n key ≡ chain m key)
+    → AreToldByChains store.tables store.layouts (variations_in parts n.base) (newest_first n)
+same_chains parts m n store h base same = record {
   of_row = λ t row used.
       ap (λ (l : List Variation). if_any (reverse l)) (same (t, key_of (store.tables t) row))
       ∙ h.chains.of_row t row used
-      ∙ ap (λ (b : ℕ). variations_in b t (versions_of store t row)) (sym base);
+      ∙ ap (λ (b : ℕ). variations_in parts b t (versions_of store t row)) (sym base);
   of_none = λ key none. ap (λ (l : List Variation). if_any (reverse l)) (same key) ∙ h.chains.of_none key none;
 }
 
 -- another machine with these chains and ends
-pub holds_the_same : (m n : Machine) (store : Store) → HoldsChains m store → KeepsBase m n → n.ended ≡ m.ended → ((key : Key) → chain n key ≡ chain m key)
-    → HoldsChains n store
-holds_the_same m n store h keeps ended same = record {
+pub holds_the_same : (parts : Parts) (m n : Machine) (store : Store) → HoldsChains parts m store → KeepsBase m n → n.ended ≡ m.ended → ((key : Key) → chain n key ≡ chain m key)
+    → HoldsChains parts n store
+holds_the_same parts m n store h keeps ended same = record {
   sound = subst (λ (short : ℕ). AreSound short store.tables store.layouts) (sym keeps.short) h.sound;
-  chains = same_chains m n store h keeps.base same;
+  chains = same_chains parts m n store h keeps.base same;
   found = found_of store m.base n.base keeps.base h.found;
   done = λ xn past. h.done xn (omega (arith, past, keeps.base)) ∙ ap is_committed (sym (same_standing m n (Some xn) keeps.base ended));
   over = λ xn past. h.over xn (omega (arith, past, keeps.base)) ∙ ap is_rolled_back (sym (same_standing m n (Some xn) keeps.base ended));
 }
 
-pub refused_leaves : (m : Machine) (store : Store) (session : ℕ) (call : Call) → HoldsChains m store → is_refusal (reply_of m session call) ≡ true
-    → HoldsChains (state_after m session call) store
+pub refused_leaves : (parts : Parts) (m : Machine) (store : Store) (session : ℕ) (call : Call) → HoldsChains parts m store → is_refusal (reply_of m session call) ≡ true
+    → HoldsChains parts (state_after m session call) store
 unfolding state_after
-refused_leaves m store session call h refused =
-    subst (λ (b : Bool). HoldsChains (cond b m (state_when_done m session call)) store) (sym refused) h
+refused_leaves parts m store session call h refused =
+    subst (λ (b : Bool). HoldsChains parts (cond b m (state_when_done m session call)) store) (sym refused) h
 
-pub reads_leave : (m : Machine) (store : Store) (session : ℕ) (call : Call) → HoldsChains m store → IsKept m → write_of call ≡ None → is_end call ≡ false
-    → HoldsChains (state_after m session call) store
-reads_leave m store session call h k writes ends =
-    holds_the_same m (state_after m session call) store h (calls_keep_base m session call) (calls_keep_ended m session call ends)
+pub reads_leave : (parts : Parts) (m : Machine) (store : Store) (session : ℕ) (call : Call) → HoldsChains parts m store → IsKept m → write_of call ≡ None → is_end call ≡ false
+    → HoldsChains parts (state_after m session call) store
+reads_leave parts m store session call h k writes ends =
+    holds_the_same parts m (state_after m session call) store h (calls_keep_base m session call) (calls_keep_ended m session call ends)
     (λ key. calls_keep_chains m session call key k writes)
 
 without_writes : (m : Machine) (x : Open) (committed : Bool) (ended : List Ended) → x.writes ≡ [] → ended ≡ m.ended ++ entry_of committed x → ended ≡ m.ended
 without_writes m x committed ended none is = is ∙ ap (λ (l : List Ended). m.ended ++ l) (no_entry committed x none) ∙ append-nil m.ended
 
-pub empty_end_leaves : (m : Machine) (store : Store) (session : ℕ) (call : Call) (xact : Open) → HoldsChains m store → IsKept m
-    → is_end call ≡ true → open_of m session ≡ Some xact → xact.writes ≡ [] → HoldsChains (state_after m session call) store
-empty_end_leaves m store session Begin xact h k ends at none = absurd (false≢true ends)
-empty_end_leaves m store session (Get table key) xact h k ends at none = absurd (false≢true ends)
-empty_end_leaves m store session (Hold table key) xact h k ends at none = absurd (false≢true ends)
-empty_end_leaves m store session (Fetch ticket) xact h k ends at none = absurd (false≢true ends)
-empty_end_leaves m store session (Find table tag) xact h k ends at none = absurd (false≢true ends)
-empty_end_leaves m store session (Scan table) xact h k ends at none = absurd (false≢true ends)
-empty_end_leaves m store session (Insert table key tag body) xact h k ends at none = absurd (false≢true ends)
-empty_end_leaves m store session (Update table key tag body) xact h k ends at none = absurd (false≢true ends)
-empty_end_leaves m store session (DeleteCall table key) xact h k ends at none = absurd (false≢true ends)
-empty_end_leaves m store session Commit xact h k ends at none =
-    holds_the_same m (state_after m session Commit) store h (calls_keep_base m session Commit)
+pub empty_end_leaves : (parts : Parts) (m : Machine) (store : Store) (session : ℕ) (call : Call) (xact : Open) → HoldsChains parts m store → IsKept m
+    → is_end call ≡ true → open_of m session ≡ Some xact → xact.writes ≡ [] → HoldsChains parts (state_after m session call) store
+empty_end_leaves parts m store session Begin xact h k ends at none = absurd (false≢true ends)
+empty_end_leaves parts m store session (Get table key) xact h k ends at none = absurd (false≢true ends)
+empty_end_leaves parts m store session (Hold table key) xact h k ends at none = absurd (false≢true ends)
+empty_end_leaves parts m store session (Fetch ticket) xact h k ends at none = absurd (false≢true ends)
+empty_end_leaves parts m store session (Find table tag) xact h k ends at none = absurd (false≢true ends)
+empty_end_leaves parts m store session (Scan table) xact h k ends at none = absurd (false≢true ends)
+empty_end_leaves parts m store session (Insert table key tag body) xact h k ends at none = absurd (false≢true ends)
+empty_end_leaves parts m store session (Update table key tag body) xact h k ends at none = absurd (false≢true ends)
+empty_end_leaves parts m store session (DeleteCall table key) xact h k ends at none = absurd (false≢true ends)
+empty_end_leaves parts m store session Commit xact h k ends at none =
+    holds_the_same parts m (state_after m session Commit) store h (calls_keep_base m session Commit)
     (without_writes m xact true (state_after m session Commit).ended none (commit_ends m session xact at))
     (λ key. calls_keep_chains m session Commit key k refl)
-empty_end_leaves m store session Rollback xact h k ends at none =
-    holds_the_same m (state_after m session Rollback) store h (calls_keep_base m session Rollback)
+empty_end_leaves parts m store session Rollback xact h k ends at none =
+    holds_the_same parts m (state_after m session Rollback) store h (calls_keep_base m session Rollback)
     (without_writes m xact false (state_after m session Rollback).ended none (rollback_ends m session xact at))
     (λ key. calls_keep_chains m session Rollback key k refl)

@@ -18,31 +18,32 @@ use Rattle.px_shown.proofs.Rows.{used_or_not}
 use Rattle.px_shown.proofs.Told.{Chains, IsBlind, IsChanged, here_or_away}
 use Rattle.px_cell_laws.specs.Holding.{HoldsChains, if_any, number_past, variation_in, variations_in}
 use Rattle.px_cell_laws.proofs.Lists.{all_unmapped, any_none, any_same, reverse_none}
+use Rattle.px_shown.specs.Parts.{Parts}
 
 -- ---- links don't count
 
-variations_seen : (base t : ℕ) (slots : List Slot) → map (variation_in base t) (map seen slots) ≡ map (variation_in base t) slots
-variations_seen base t [] = refl
-variations_seen base t (slot ∷ slots) =
-    ap (λ (w : Write). by (number_past base slot.xn) w ∷ map (variation_in base t) (map seen slots)) (write_seen t slot)
-    ∙ ap (λ (l : List Variation). variation_in base t slot ∷ l) (variations_seen base t slots)
+variations_seen : (parts : Parts) (base t : ℕ) (slots : List Slot) → map (variation_in parts base t) (map seen slots) ≡ map (variation_in parts base t) slots
+variations_seen parts base t [] = refl
+variations_seen parts base t (slot ∷ slots) =
+    ap (λ (w : Write). by (number_past base slot.xn) w ∷ map (variation_in parts base t) (map seen slots)) (write_seen parts t slot)
+    ∙ ap (λ (l : List Variation). variation_in parts base t slot ∷ l) (variations_seen parts base t slots)
 
-pub variations_blind : (base : ℕ) → IsBlind (variations_in base)
-variations_blind base = record {
-  alike = λ t slots. ap if_any (variations_seen base t slots);
+pub variations_blind : (parts : Parts) (base : ℕ) → IsBlind (variations_in parts base)
+variations_blind parts base = record {
+  alike = λ t slots. ap if_any (variations_seen parts base t slots);
   none = λ t. refl;
 }
 
 -- ---- a row and its key
 
-pub chain_of_row : (m : Machine) (store : Store) (t row : ℕ) → HoldsChains m store → IsUsedRow (store.tables t) row
-    → reverse (chain m (t, key_of (store.tables t) row)) ≡ map (variation_in m.base t) (versions_of store t row)
-chain_of_row m store t row h used =
-    any_same (reverse (chain m (t, key_of (store.tables t) row))) (map (variation_in m.base t) (versions_of store t row)) (h.chains.of_row t row used)
+pub chain_of_row : (parts : Parts) (m : Machine) (store : Store) (t row : ℕ) → HoldsChains parts m store → IsUsedRow (store.tables t) row
+    → reverse (chain m (t, key_of (store.tables t) row)) ≡ map (variation_in parts m.base t) (versions_of store t row)
+chain_of_row parts m store t row h used =
+    any_same (reverse (chain m (t, key_of (store.tables t) row))) (map (variation_in parts m.base t) (versions_of store t row)) (h.chains.of_row t row used)
 
-pub no_row_no_chain : (m : Machine) (store : Store) (key : Key) → HoldsChains m store
+pub no_row_no_chain : (parts : Parts) (m : Machine) (store : Store) (key : Key) → HoldsChains parts m store
     → ((row : ℕ) → IsUsedRow (store.tables key.0) row → key_of (store.tables key.0) row ≢ key.1) → chain m key ≡ []
-no_row_no_chain m store key h none = reverse_none (chain m key) (any_none (reverse (chain m key)) (h.chains.of_none key none))
+no_row_no_chain parts m store key h none = reverse_none (chain m key) (any_none (reverse (chain m key)) (h.chains.of_none key none))
 
 -- a row that isn't used has no versions
 pub no_versions : (short : ℕ) (store : Store) (t row : ℕ) → AreSound short store.tables store.layouts → (IsUsedRow (store.tables t) row → ⊥)

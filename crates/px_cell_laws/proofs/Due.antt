@@ -29,6 +29,7 @@ use Rattle.px_cell_laws.proofs.Chained.{chain_of_row}
 use Rattle.px_cell_laws.proofs.Cutting.{mapped_to}
 use Rattle.px_cell_laws.proofs.Locating.{chain_length}
 use Rattle.px_cell_laws.proofs.Sweeping.{version_there}
+use Rattle.px_shown.specs.Parts.{Parts}
 
 -- ---- the first of the queue
 
@@ -108,17 +109,17 @@ of_its_key all entry rest key queue its =
     ∙ ap (λ (b : Bool). cond b (entry.write ∷ of_key key others) (of_key key others)) (ap (same_key key) its ∙ key_itself key)
     ∙ ap (λ (l : List Unswept). entry.write ∷ of_key key (unswept_writes (record all { queue = drop 1 l }))) (sym queue)
 
-as_many_versions : (m : Machine) (store : Store) (t row : ℕ) → HoldsChains m store → IsUsedRow (store.tables t) row
+as_many_versions : (parts : Parts) (m : Machine) (store : Store) (t row : ℕ) → HoldsChains parts m store → IsUsedRow (store.tables t) row
     → length (versions_of store t row) ≡ length (chain m (t, key_of (store.tables t) row))
-as_many_versions m store t row h used =
-    sym (length-map (versions_of store t row) (variation_in m.base t))
-    ∙ ap (λ (l : List Variation). length l) (sym (chain_of_row m store t row h used))
+as_many_versions parts m store t row h used =
+    sym (length-map (versions_of store t row) (variation_in parts m.base t))
+    ∙ ap (λ (l : List Variation). length l) (sym (chain_of_row parts m store t row h used))
     ∙ length-reverse (chain m (t, key_of (store.tables t) row))
 
-pub located : (m : Machine) (all : Transactions) (store : Store) (entry : Unswept) (rest : List Unswept) (w : Flat) (t row place : ℕ) → Mirrors m all → HoldsChains m store
+pub located : (parts : Parts) (m : Machine) (all : Transactions) (store : Store) (entry : Unswept) (rest : List Unswept) (w : Flat) (t row place : ℕ) → Mirrors m all → HoldsChains parts m store
     → AreWrittenAt all store → all.queue ≡ entry ∷ rest → key_at entry.write ≡ key_written w.write → IsSweptAt m store w t row place
     → IsLocated all store entry.write t row place
-located m all store entry rest w t row place mirrors h at queue its swept =
+located parts m all store entry rest w t row place mirrors h at queue its swept =
     let key : Key = (t, key_of (store.tables t) row) in
     let others = of_key key (unswept_writes (without_first all)) in
     let front = at.chains t row swept.used in
@@ -134,7 +135,7 @@ located m all store entry rest w t row place mirrors h at queue its swept =
     ∙ ap (λ (l : List (ℕ × ℕ)). length l) f.its_first
     ∙ length-reverse (map place_of others)
     ∙ length-map others place_of in
-    let versions = as_many_versions m store t row h swept.used in
+    let versions = as_many_versions parts m store t row h swept.used in
     let whole = chain_length m all key mirrors in
     let unswept : length (of_key key (unswept_writes all)) ≡ 1 + length others = ap (λ (l : List WriteAt). length l) writes ∙ (let one : length (entry.write ∷ others) ≡ 1 + length others = omega arith in one) in
     let base : length (base_of m (key_written w.write)) ≡ length (base_of m key) = ap (λ (q : Key). length (base_of m q)) (sym swept.its_key) in
@@ -162,8 +163,8 @@ pub record IsDueAt (m : Machine) (all : Transactions) (store : Store) (due : Due
   pub number : w.number ≡ due.number
   pub committed : w.committed ≡ due.committed
 
-due_at : (m : Machine) (all : Transactions) (store : Store) (due : Due) → Mirrors m all → HoldsChains m store → AreWrittenAt all store → xacts.due all ≡ Some due → IsDueAt m all store due
-due_at m all store due mirrors h at is =
+due_at : (parts : Parts) (m : Machine) (all : Transactions) (store : Store) (due : Due) → Mirrors m all → HoldsChains parts m store → AreWrittenAt all store → xacts.due all ≡ Some due → IsDueAt m all store due
+due_at parts m all store due mirrors h at is =
     let d = first_due all due is in
     let its = its_write m all d.entry d.rest mirrors d.queue in
     let key = key_written its.w.write in
@@ -171,8 +172,8 @@ due_at m all store due mirrors h at is =
     let places : d.entry.place ≡ its.w.place = ap (λ (known : KnownWrite). known.0) its.known in
     let horizons = horizon_mirrors m all mirrors in
     let below = d.below in
-    let there = version_there m store its.w h its.next (omega (arith, places, horizons, below)) in
-    let l = located m all store d.entry d.rest its.w key.0 there.0 there.1 mirrors h at d.queue its_key there.2 in
+    let there = version_there parts m store its.w h its.next (omega (arith, places, horizons, below)) in
+    let l = located parts m all store d.entry d.rest its.w key.0 there.0 there.1 mirrors h at d.queue its_key there.2 in
     let table : key.0 ≡ d.entry.write.table = sym (ap (λ (q : Key). q.0) its_key) in
     subst (λ (it : Due). IsDueAt m all store it) d.same (subst (λ (t : ℕ). IsDueAt m all store (record (due_from d.entry) { table = t })) table
     (subst (λ (r : ℕ). IsDueAt m all store (record (due_from d.entry) { table = key.0; row = r })) l.its_row (record {
@@ -187,17 +188,17 @@ due_at m all store due mirrors h at is =
       committed = sym (ap (λ (known : KnownWrite). known.1.1.0) its.known);
     })))
 
-pub due_there : (m : Machine) (all : Transactions) (store : Store) (due : Due) → Mirrors m all → HoldsChains m store → AreWrittenAt all store → xacts.due all ≡ Some due
+pub due_there : (parts : Parts) (m : Machine) (all : Transactions) (store : Store) (due : Due) → Mirrors m all → HoldsChains parts m store → AreWrittenAt all store → xacts.due all ≡ Some due
     → IsUsedRow (store.tables due.table) due.row × Contains ((store.layouts due.table).chain due.row) due.slot
-due_there m all store due mirrors h at is =
-    let d = due_at m all store due mirrors h at is in
+due_there parts m all store due mirrors h at is =
+    let d = due_at parts m all store due mirrors h at is in
     (d.swept.used, subst (λ (l : List ℕ). Contains l due.slot) (sym d.split) (inside d.first due.slot d.last))
 
-pub due_swept : (m : Machine) (all : Transactions) (store : Store) (due : Due) (place : ℕ) → Mirrors m all → HoldsChains m store → AreWrittenAt all store → xacts.due all ≡ Some due
+pub due_swept : (parts : Parts) (m : Machine) (all : Transactions) (store : Store) (due : Due) (place : ℕ) → Mirrors m all → HoldsChains parts m store → AreWrittenAt all store → xacts.due all ≡ Some due
     → slice_get ((store.layouts due.table).chain due.row) place ≡ Some due.slot
     → (w : Flat) × IsSweptAt m store w due.table due.row place × (w.number ≡ due.number) × (w.committed ≡ due.committed)
-due_swept m all store due place mirrors h at is there =
-    let d = due_at m all store due mirrors h at is in
+due_swept parts m all store due place mirrors h at is there =
+    let d = due_at parts m all store due mirrors h at is in
     let apart = subst IsApart d.split (chain_once m.short (store.tables due.table) (store.layouts due.table) due.row (h.sound due.table)) in
     let same : place ≡ d.place =
     one_place d.first d.last due.slot place apart (ap (λ (l : List ℕ). slice_get l place) (sym d.split) ∙ there) ∙ d.count in

@@ -22,6 +22,7 @@ use Rattle.px_model.specs.declared.write.Write.TheVariants.{Put}
 use Rattle.px_xacts.specs.Transactions.{standing_at}
 use Rattle.px_cell_laws.specs.Holding.{HoldsChains, is_rolled_back, number_past, variation_in}
 use Rattle.px_cell_laws.proofs.Ends.{rolled_back_at}
+use Rattle.px_shown.specs.Parts.{Parts}
 
 -- its transaction ended
 pub record HasEnded (m : Machine) (xn : ℕ) : Type 0 where
@@ -68,17 +69,17 @@ number_known base xn number known = ⊎_elim
 abbrev pub IsDoneOrOver : Store → (xn : ℕ) → Type 0
 IsDoneOrOver store xn = (store.done xn ≡ true) ⊎ (store.over xn ≡ true)
 
-pub ended_is_past : (m : Machine) (store : Store) (xn : ℕ) → HoldsChains m store → m.base < xn → HasEnded m xn → IsDoneOrOver store xn
-ended_is_past m store xn h past ended = how ended.committed ended.so
+pub ended_is_past : (parts : Parts) (m : Machine) (store : Store) (xn : ℕ) → HoldsChains parts m store → m.base < xn → HasEnded m xn → IsDoneOrOver store xn
+ended_is_past parts m store xn h past ended = how ended.committed ended.so
   where
     how : (committed : Bool) → standing_in m (Some xn) ≡ standing_at ended.place committed → IsDoneOrOver store xn
     how true so = inl (h.done xn past ∙ ap is_committed so)
     how false so = inr (h.over xn past ∙ ap is_rolled_back so)
 
-pub version_is_past : (m : Machine) (store : Store) (t : ℕ) (s : Slot) → HoldsChains m store → (s.xn ≤ m.base → store.done s.xn ≡ true)
-    → IsEnded m (variation_in m.base t s) → IsDoneOrOver store s.xn
-version_is_past m store t s h found ended = ⊎_elim
-    (λ (past : m.base < s.xn). ended_is_past m store s.xn h past (subst (λ (b : Bool). IfSome (cond b None (Some s.xn)) (HasEnded m)) (lt-leb s.xn m.base past) ended))
+pub version_is_past : (parts : Parts) (m : Machine) (store : Store) (t : ℕ) (s : Slot) → HoldsChains parts m store → (s.xn ≤ m.base → store.done s.xn ≡ true)
+    → IsEnded m (variation_in parts m.base t s) → IsDoneOrOver store s.xn
+version_is_past parts m store t s h found ended = ⊎_elim
+    (λ (past : m.base < s.xn). ended_is_past parts m store s.xn h past (subst (λ (b : Bool). IfSome (cond b None (Some s.xn)) (HasEnded m)) (lt-leb s.xn m.base past) ended))
     (λ (low : s.xn ≤ m.base). inl (found low))
     (cases_lt m.base s.xn)
 
@@ -88,9 +89,9 @@ pub record IsMadeBy (m : Machine) (store : Store) (w : Flat) (s : Slot) : Type 0
   pub done : store.done s.xn ≡ w.committed
   pub over : store.over s.xn ≡ not w.committed
 
-pub made_by : (m : Machine) (store : Store) (w : Flat) (t : ℕ) (s : Slot) → HoldsChains m store → IsTold m w
-    → variation_in m.base t s ≡ of_ended m.base w → IsMadeBy m store w s
-made_by m store w t s h told is =
+pub made_by : (parts : Parts) (m : Machine) (store : Store) (w : Flat) (t : ℕ) (s : Slot) → HoldsChains parts m store → IsTold m w
+    → variation_in parts m.base t s ≡ of_ended m.base w → IsMadeBy m store w s
+made_by parts m store w t s h told is =
     let known = number_known m.base s.xn (m.base + w.number) (ap (λ (v : Variation). v.xn) is) in
     let so = ap (λ (xn : ℕ). standing_in m (Some xn)) known.0 ∙ told in
     record {

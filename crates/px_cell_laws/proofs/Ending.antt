@@ -23,6 +23,7 @@ use Rattle.px_cell_laws.specs.Holding.{HoldsChains, is_rolled_back}
 use Rattle.px_cell_laws.proofs.Beginning.{open_may_commit}
 use Rattle.px_cell_laws.proofs.Calling.{found_of, same_chains}
 use Rattle.px_cell_laws.proofs.Ends.{KeepsBase, calls_keep_base, commit_ends, ended_is, entry, one_entry, rollback_ends, rolled_back_at}
+use Rattle.px_shown.specs.Parts.{Parts}
 
 -- the store's tables, where one transaction has ended
 record IsEnded (store : Store) (own : ℕ) (committed : Bool) (done : Done) (over : ℕ → Bool) : Type 0 where
@@ -31,17 +32,17 @@ record IsEnded (store : Store) (own : ℕ) (committed : Bool) (done : Done) (ove
   pub others_done : (xn : ℕ) → xn ≢ own → done xn ≡ store.done xn
   pub others_over : (xn : ℕ) → xn ≢ own → over xn ≡ store.over xn
 
-end_holds : (m n : Machine) (store : Store) (s : ℕ) (x : Open) (committed : Bool) (done : Done) (over : ℕ → Bool) → HoldsChains m store → IsKept m → open_of m s ≡ Some x
+end_holds : (parts : Parts) (m n : Machine) (store : Store) (s : ℕ) (x : Open) (committed : Bool) (done : Done) (over : ℕ → Bool) → HoldsChains parts m store → IsKept m → open_of m s ≡ Some x
     → KeepsBase m n → n.ended ≡ m.ended ++ entry committed x ∷ [] → ((key : Key) → chain n key ≡ chain m key)
-    → IsEnded store (m.base + x.number) committed done over → HoldsChains n (record store { done = done; over = over })
-end_holds m n store s x committed done over h k at keeps ended same is =
+    → IsEnded store (m.base + x.number) committed done over → HoldsChains parts n (record store { done = done; over = over })
+end_holds parts m n store s x committed done over h k at keeps ended same is =
     let own = m.base + x.number in
     let e = ended_is m n s x committed k at keeps.base ended in
     let one = k.numbered.open_ones.from_one s x at in
     let next : Store = record store { done = done; over = over } in
     record {
       sound = subst (λ (short : ℕ). AreSound short store.tables store.layouts) (sym keeps.short) h.sound;
-      chains = same_chains m n store h keeps.base same;
+      chains = same_chains parts m n store h keeps.base same;
       found = found_of next m.base n.base keeps.base (λ t row.
           All-weaker (λ (slot : Slot). slot.xn ≤ m.base → store.done slot.xn ≡ true) (λ (slot : Slot). slot.xn ≤ m.base → done slot.xn ≡ true)
           (λ slot was low. is.others_done slot.xn (λ its. omega (arith, its, low, one)) ∙ was low) (versions_of store t row) (h.found t row));
@@ -55,18 +56,18 @@ end_holds m n store s x committed done over h k at keeps ended same is =
           (cases_eq xn own);
     }
 
-pub commit_follows : (m : Machine) (store : Store) (session : ℕ) (xact : Open) → HoldsChains m store → IsKept m → HaveOneWriter store
-    → open_of m session ≡ Some xact → IsStep m.short store (Step.commit (m.base + xact.number) (commits m + 1))
-commit_follows m store session xact h k one at =
-    let its = open_may_commit m store session xact h k at in
+pub commit_follows : (parts : Parts) (m : Machine) (store : Store) (session : ℕ) (xact : Open) → HoldsChains parts m store → IsKept m → HaveOneWriter store
+    → open_of m session ≡ Some xact → IsStep parts m.short store (Step.commit (m.base + xact.number) (commits m + 1))
+commit_follows parts m store session xact h k one at =
+    let its = open_may_commit parts m store session xact h k at in
     record { writer = its; in_front = one.in_front (m.base + xact.number) its }
 
-pub commit_holds : (m : Machine) (store : Store) (session : ℕ) (xact : Open) → HoldsChains m store → IsKept m → open_of m session ≡ Some xact → xact.writes ≢ []
-    → HoldsChains (state_after m session Commit) (after_step store (Step.commit (m.base + xact.number) (commits m + 1)))
-commit_holds m store session xact h k at some =
+pub commit_holds : (parts : Parts) (m : Machine) (store : Store) (session : ℕ) (xact : Open) → HoldsChains parts m store → IsKept m → open_of m session ≡ Some xact → xact.writes ≢ []
+    → HoldsChains parts (state_after m session Commit) (after_step store (Step.commit (m.base + xact.number) (commits m + 1)))
+commit_holds parts m store session xact h k at some =
     let own = m.base + xact.number in
-    let its = open_may_commit m store session xact h k at in
-    end_holds m (state_after m session Commit) store session xact true (done_with own store.done) store.over h k at (calls_keep_base m session Commit)
+    let its = open_may_commit parts m store session xact h k at in
+    end_holds parts m (state_after m session Commit) store session xact true (done_with own store.done) store.over h k at (calls_keep_base m session Commit)
     (commit_ends m session xact at ∙ ap (λ (l : List Ended). m.ended ++ l) (one_entry true xact some))
     (λ key. calls_keep_chains m session Commit key k refl)
     (record {
@@ -76,16 +77,16 @@ commit_holds m store session xact h k at some =
       others_over = λ xn other. refl;
     })
 
-pub rollback_follows : (m : Machine) (store : Store) (session : ℕ) (xact : Open) → HoldsChains m store → IsKept m → open_of m session ≡ Some xact
-    → IsStep m.short store (Step.rollback (m.base + xact.number))
-rollback_follows m store session xact h k at = (open_may_commit m store session xact h k at).undone
+pub rollback_follows : (parts : Parts) (m : Machine) (store : Store) (session : ℕ) (xact : Open) → HoldsChains parts m store → IsKept m → open_of m session ≡ Some xact
+    → IsStep parts m.short store (Step.rollback (m.base + xact.number))
+rollback_follows parts m store session xact h k at = (open_may_commit parts m store session xact h k at).undone
 
-pub rollback_holds : (m : Machine) (store : Store) (session : ℕ) (xact : Open) → HoldsChains m store → IsKept m → open_of m session ≡ Some xact → xact.writes ≢ []
-    → HoldsChains (state_after m session Rollback) (after_step store (Step.rollback (m.base + xact.number)))
-rollback_holds m store session xact h k at some =
+pub rollback_holds : (parts : Parts) (m : Machine) (store : Store) (session : ℕ) (xact : Open) → HoldsChains parts m store → IsKept m → open_of m session ≡ Some xact → xact.writes ≢ []
+    → HoldsChains parts (state_after m session Rollback) (after_step store (Step.rollback (m.base + xact.number)))
+rollback_holds parts m store session xact h k at some =
     let own = m.base + xact.number in
-    let its = open_may_commit m store session xact h k at in
-    end_holds m (state_after m session Rollback) store session xact false store.done (λ number. (number == own) || store.over number) h k at (calls_keep_base m session Rollback)
+    let its = open_may_commit parts m store session xact h k at in
+    end_holds parts m (state_after m session Rollback) store session xact false store.done (λ number. (number == own) || store.over number) h k at (calls_keep_base m session Rollback)
     (rollback_ends m session xact at ∙ ap (λ (l : List Ended). m.ended ++ l) (one_entry false xact some))
     (λ key. calls_keep_chains m session Rollback key k refl)
     (record {

@@ -31,6 +31,7 @@ use Rattle.px_cell_laws.specs.Locating.{AreWrittenAt, BeginsWith, of_key, unswep
 use Rattle.px_cell_laws.proofs.Noting.{in_row}
 use Rattle.px_cell_laws.proofs.OneRow.{ChangesRow, row_changes, written_changed}
 use Rattle.px_cell_laws.proofs.Due.{located}
+use Rattle.px_shown.specs.Parts.{Parts}
 
 mapped_front : {X Y : Type 0} (f : X → Y) (first list : List X) → BeginsWith first list → BeginsWith (map f first) (map f list)
 mapped_front f first list b = record { others = map f b.others; split = ap (map f) b.split ∙ map-append f first b.others }
@@ -90,39 +91,39 @@ others_stay all entry rest key queue other =
 -- ---- a sweep
 
 -- the row still begins with the places of the other writes of its key, where no more goes than from the version on
-sweep_leaves : (m : Machine) (all : Transactions) (store next : Store) (w : Flat) (t row place : ℕ) → Mirrors m all → HoldsChains m store → AreWrittenAt all store
+sweep_leaves : (parts : Parts) (m : Machine) (all : Transactions) (store next : Store) (w : Flat) (t row place : ℕ) → Mirrors m all → HoldsChains parts m store → AreWrittenAt all store
     → IsSweptAt m store w t row place → ChangesRow store next t row (key_of (store.tables t) row)
     → ((first : List ℕ) (others : List ℕ) → length first ≡ place → (store.layouts t).chain row ≡ first ++ others → BeginsWith first ((next.layouts t).chain row))
     → AreWrittenAt (without_first all) next
-sweep_leaves m all store next w t row place mirrors h at swept c left =
+sweep_leaves parts m all store next w t row place mirrors h at swept c left =
     let key : Key = (t, key_of (store.tables t) row) in
     let f = first_of m all w mirrors swept.next in
-    let l = located m all store f.entry f.rest w t row place mirrors h at f.queue f.its_key swept in
+    let l = located parts m all store f.entry f.rest w t row place mirrors h at f.queue f.its_key swept in
     let its_key : key_at f.entry.write ≡ key = f.its_key ∙ sym swept.its_key in
     written_changed all (without_first all) store next t row (key_of (store.tables t) row) c at
     (λ k other. others_stay all f.entry f.rest k f.queue (ap (same_key k) its_key ∙ other))
     (λ used. subst (λ (first : List (ℕ × ℕ)). BeginsWith first (in_row row ((next.layouts t).chain row))) l.later
     (mapped_front (λ slot. (row, slot)) l.first ((next.layouts t).chain row) (left l.first (f.entry.write.slot ∷ l.last) l.count l.split)))
 
-pub sweep_written : (m : Machine) (all : Transactions) (store : Store) (w : Flat) (t row place : ℕ) → Mirrors m all → HoldsChains m store → IsKept m → AreWrittenAt all store
+pub sweep_written : (parts : Parts) (m : Machine) (all : Transactions) (store : Store) (w : Flat) (t row place : ℕ) → Mirrors m all → HoldsChains parts m store → IsKept m → AreWrittenAt all store
     → IsSweptAt m store w t row place → 1 ≤ sweep_count_of store w t row place → AreWrittenAt (without_first all) (after_step store (sweep_of store w t row place))
-sweep_written m all store w t row place mirrors h k at swept some =
+sweep_written parts m all store w t row place mirrors h k at swept some =
     let from = sweep_from w.committed (is_put w.write) place in
     let count = sweep_count_of store w t row place in
     let next = after_unlink store t row from count in
-    let c = cut m store w t row place h k swept in
-    sweep_leaves m all store next w t row place mirrors h at swept
+    let c = cut parts m store w t row place h k swept in
+    sweep_leaves parts m all store next w t row place mirrors h at swept
     (row_changes m.short store next t row (key_of (store.tables t) row) (map (store.tables t).slot (left_of ((store.layouts t).chain row) from count)) h.sound
-    (unlink_stays_sound m.short store.tables store.layouts t row from count h.sound swept.used some (within_row m store w t row from count c))
-    (sweep_changes m store w t row place from count h swept c some) (unlinked_away store.layouts t row from count))
+    (unlink_stays_sound m.short store.tables store.layouts t row from count h.sound swept.used some (within_row parts m store w t row from count c))
+    (sweep_changes parts m store w t row place from count h swept c some) (unlinked_away store.layouts t row from count))
     (λ first others many split.
     let below = from_there w.committed (is_put w.write) place in
     subst (λ (slots : List ℕ). BeginsWith first slots) (sym (unlinked_here store.layouts t row from count ∙ ap (λ (slots : List ℕ). left_of slots from count) split))
     (front_stays first others from count (omega (arith, many, below))))
 
 -- the cells stay
-same_cells : (m : Machine) (store : Store) (t row : ℕ) → HoldsChains m store → IsUsedRow (store.tables t) row → ChangesRow store store t row (key_of (store.tables t) row)
-same_cells m store t row h its_used = record {
+same_cells : (parts : Parts) (m : Machine) (store : Store) (t row : ℕ) → HoldsChains parts m store → IsUsedRow (store.tables t) row → ChangesRow store store t row (key_of (store.tables t) row)
+same_cells parts m store t row h its_used = record {
   here = λ used. refl;
   away = λ n q away used. (used, refl);
   apart = λ n q away used. same_key-not (n, key_of (store.tables n) q) (t, key_of (store.tables t) row) (λ same.
@@ -133,7 +134,7 @@ same_cells m store t row h its_used = record {
   places = λ n q away. refl;
 }
 
-pub nothing_swept_written : (m : Machine) (all : Transactions) (store : Store) (w : Flat) (t row place : ℕ) → Mirrors m all → HoldsChains m store → AreWrittenAt all store
+pub nothing_swept_written : (parts : Parts) (m : Machine) (all : Transactions) (store : Store) (w : Flat) (t row place : ℕ) → Mirrors m all → HoldsChains parts m store → AreWrittenAt all store
     → IsSweptAt m store w t row place → AreWrittenAt (without_first all) store
-nothing_swept_written m all store w t row place mirrors h at swept =
-    sweep_leaves m all store store w t row place mirrors h at swept (same_cells m store t row h swept.used) (λ first others many split. record { others = others; split = split })
+nothing_swept_written parts m all store w t row place mirrors h at swept =
+    sweep_leaves parts m all store store w t row place mirrors h at swept (same_cells parts m store t row h swept.used) (λ first others many split. record { others = others; split = split })

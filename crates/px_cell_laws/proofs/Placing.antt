@@ -36,6 +36,7 @@ use Rattle.px_cell_laws.specs.Writing.{IsWriteBy}
 use Rattle.px_cell_laws.proofs.Locating.{as_many_open, chain_length, of_key_parts}
 use Rattle.px_cell_laws.proofs.Noting.{Locates, in_row, open_at, slot_alike, with_slots}
 use Rattle.px_cell_laws.proofs.OneRow.{row_changes, written_changed}
+use Rattle.px_shown.specs.Parts.{Parts}
 
 linked_here : (table : Table) (layout : Layout) (slot : Slot) → (layout_linked table layout slot).chain slot.row ≡ taken_slot table ∷ layout.chain slot.row
 linked_here table layout slot =
@@ -114,13 +115,13 @@ newest_at m all session x key write mirrors at none its =
     ∙ ap (λ (l : List WriteAt). l ++ write ∷ []) (sym (of_key_parts key all))
 
 -- what is unswept of the slot's key stands in its row, also where the slot begins the row
-before_it : (m : Machine) (all : Transactions) (store : Store) (t : ℕ) (header : Header) (slot : Slot) → Mirrors m all → HoldsChains m store → AreWrittenAt all store
+before_it : (parts : Parts) (m : Machine) (all : Transactions) (store : Store) (t : ℕ) (header : Header) (slot : Slot) → Mirrors m all → HoldsChains parts m store → AreWrittenAt all store
     → BeginsRow (store.tables t) header slot ⊎ VariesRow (store.tables t) header slot
     → Locates slot.row (of_key (t, slot.key) (unswept_writes all)) ((store.layouts t).chain slot.row)
-before_it m all store t header slot mirrors h at link = ⊎_elim
+before_it parts m all store t header slot mirrors h at link = ⊎_elim
     (λ (begins : BeginsRow (store.tables t) header slot).
     let whole = chain_length m all (t, slot.key) mirrors in
-    let empty : length (chain m (t, slot.key)) ≡ 0 = ap (λ l. length l) (no_row_no_chain m store (t, slot.key) h begins.its_key) in
+    let empty : length (chain m (t, slot.key)) ≡ 0 = ap (λ l. length l) (no_row_no_chain parts m store (t, slot.key) h begins.its_key) in
     let none : of_key (t, slot.key) (unswept_writes all) ≡ [] = nil_from_length (of_key (t, slot.key) (unswept_writes all)) (omega (arith, whole, empty)) in
     subst (λ (l : List WriteAt). Locates slot.row l ((store.layouts t).chain slot.row)) (sym none)
     (record { others = in_row slot.row ((store.layouts t).chain slot.row); split = refl }))
@@ -141,18 +142,18 @@ one_more row slot writes write slots its l =
       split = ap (λ (p : List (ℕ × ℕ)). (row, slot) ∷ p) l.split ∙ ap (λ (p : List (ℕ × ℕ)). p ++ l.others) (sym newest);
     }
 
-pub write_written : (m : Machine) (all : Transactions) (store : Store) (session : ℕ) (call : Call) (t : ℕ) (header : Header) (slot : Slot) → Mirrors m all → HoldsChains m store
-    → AreWrittenAt all store → IsWriteBy m store session call t header slot
+pub write_written : (parts : Parts) (m : Machine) (all : Transactions) (store : Store) (session : ℕ) (call : Call) (t : ℕ) (header : Header) (slot : Slot) → Mirrors m all → HoldsChains parts m store
+    → AreWrittenAt all store → IsWriteBy parts m store session call t header slot
     → AreWrittenAt (xacts.with_write all session (write_at store t slot)) (after_step store (Step.put t header slot))
-write_written m all store session call t header slot mirrors h at v =
+write_written parts m all store session call t header slot mirrors h at v =
     let next = after_put store t header slot in
     let key : Key = (t, slot.key) in
     let write = write_at store t slot in
     let other = xacts.with_write all session write in
-    let none = nobody_writes key m.base (set m.active session None) (its_key_is_free m store session call t header slot v) in
+    let none = nobody_writes key m.base (set m.active session None) (its_key_is_free parts m store session call t header slot v) in
     written_changed all other store next t slot.row slot.key
-    (row_changes m.short store next t slot.row slot.key (slot ∷ versions_of store t slot.row) h.sound (put_sound m store session call t header slot h v)
-    (put_changes m store session call t header slot h v) (put_away store t header slot))
+    (row_changes m.short store next t slot.row slot.key (slot ∷ versions_of store t slot.row) h.sound (put_sound parts m store session call t header slot h v)
+    (put_changes parts m store session call t header slot h v) (put_away store t header slot))
     at
     (λ k apart. with_slots all other k refl
     (slot_alike k all.active session (option_map (xacts.plus_write write) (xacts.open_of all session)) (written_elsewhere k write (xacts.open_of all session) apart)))
@@ -160,4 +161,4 @@ write_written m all store session call t header slot mirrors h at v =
     subst (λ (writes : List WriteAt). Locates slot.row writes ((next.layouts t).chain slot.row)) (sym (newest_at m all session v.xact key write mirrors v.is_open none refl))
     (subst (λ (slots : List ℕ). Locates slot.row (of_key key (unswept_writes all) ++ write ∷ []) slots) (sym (put_here store t header slot))
     (one_more slot.row (taken_slot (store.tables t)) (of_key key (unswept_writes all)) write ((store.layouts t).chain slot.row) refl
-    (before_it m all store t header slot mirrors h at v.link))))
+    (before_it parts m all store t header slot mirrors h at v.link))))

@@ -41,6 +41,7 @@ use Rattle.px_cell_laws.specs.Holding.{HoldsChains, variation_in}
 use Rattle.px_cell_laws.specs.Reading.{slot_seen, view_of}
 use Rattle.px_cell_laws.proofs.Chained.{chain_of_row, no_row_no_chain}
 use Rattle.px_cell_laws.proofs.Lists.{find_alike, find_mapped, mapped_to_itself, mapped_twice}
+use Rattle.px_shown.specs.Parts.{Parts}
 
 -- ---- the rows after all commits
 
@@ -93,46 +94,46 @@ row_now m key k =
 
 -- ---- the slots that count
 
-slot_counts : (m : Machine) (store : Store) (t : ℕ) (s : Slot) → HoldsChains m store → (s.xn ≤ m.base → store.done s.xn ≡ true)
-    → store.done s.xn ≡ counts_in m (variation_in m.base t s)
-slot_counts m store t s h found = ⊎_elim
+slot_counts : (parts : Parts) (m : Machine) (store : Store) (t : ℕ) (s : Slot) → HoldsChains parts m store → (s.xn ≤ m.base → store.done s.xn ≡ true)
+    → store.done s.xn ≡ counts_in m (variation_in parts m.base t s)
+slot_counts parts m store t s h found = ⊎_elim
     (λ (past : m.base < s.xn). h.done s.xn past ∙ sym (ap (λ (b : Bool). counts m (cond b None (Some s.xn))) (lt-leb s.xn m.base past)))
     (λ (low : s.xn ≤ m.base). found low ∙ sym (ap (λ (b : Bool). counts m (cond b None (Some s.xn))) (le-leb s.xn m.base low)))
     (cases_lt m.base s.xn)
 
-row_of_slot : (base t : ℕ) (o : Option Slot) → row_left None (option_map (write_of t) o) ≡ row_seen (option_map (variation_in base t) o)
-row_of_slot base t None = refl
-row_of_slot base t (Some s) = refl
+row_of_slot : (parts : Parts) (base t : ℕ) (o : Option Slot) → row_left None (option_map (write_of parts t) o) ≡ row_seen (option_map (variation_in parts base t) o)
+row_of_slot parts base t None = refl
+row_of_slot parts base t (Some s) = refl
 
-shown_now : (m : Machine) (store : Store) (t row : ℕ) → HoldsChains m store → IsUsedRow (store.tables t) row
-    → row_shown t store.done (versions_of store t row) ≡ row_seen (last (counts_in m) (chain m (t, key_of (store.tables t) row)))
-shown_now m store t row h used =
+shown_now : (parts : Parts) (m : Machine) (store : Store) (t row : ℕ) → HoldsChains parts m store → IsUsedRow (store.tables t) row
+    → row_shown parts t store.done (versions_of store t row) ≡ row_seen (last (counts_in m) (chain m (t, key_of (store.tables t) row)))
+shown_now parts m store t row h used =
     let slots = versions_of store t row in
-    let counts_here : Slot → Bool = λ s. counts_in m (variation_in m.base t s) in
-    ap (λ o. row_left None (option_map (write_of t) o)) (find_alike (λ (s : Slot). store.done s.xn) counts_here slots
-    (All-weaker (λ (s : Slot). s.xn ≤ m.base → store.done s.xn ≡ true) (λ (s : Slot). store.done s.xn ≡ counts_here s) (λ s found. slot_counts m store t s h found) slots (h.found t row)))
-    ∙ row_of_slot m.base t (find counts_here slots)
-    ∙ ap row_seen (sym (find_mapped (counts_in m) (variation_in m.base t) slots))
-    ∙ ap (λ (l : List Variation). row_seen (find (counts_in m) l)) (sym (chain_of_row m store t row h used))
+    let counts_here : Slot → Bool = λ s. counts_in m (variation_in parts m.base t s) in
+    ap (λ o. row_left None (option_map (write_of parts t) o)) (find_alike (λ (s : Slot). store.done s.xn) counts_here slots
+    (All-weaker (λ (s : Slot). s.xn ≤ m.base → store.done s.xn ≡ true) (λ (s : Slot). store.done s.xn ≡ counts_here s) (λ s found. slot_counts parts m store t s h found) slots (h.found t row)))
+    ∙ row_of_slot parts m.base t (find counts_here slots)
+    ∙ ap row_seen (sym (find_mapped (counts_in m) (variation_in parts m.base t) slots))
+    ∙ ap (λ (l : List Variation). row_seen (find (counts_in m) l)) (sym (chain_of_row parts m store t row h used))
 
-pub committed_shown : (m : Machine) (store : Store) → HoldsChains m store → IsKept m → in_order m.opening ≡ true
-    → Shows store.tables store.layouts store.done (published m (commits m - m.before))
-committed_shown m store h k opening = record {
+pub committed_shown : (parts : Parts) (m : Machine) (store : Store) → HoldsChains parts m store → IsKept m → in_order m.opening ≡ true
+    → Shows parts store.tables store.layouts store.done (published m (commits m - m.before))
+committed_shown parts m store h k opening = record {
   order = ap in_order (published_now m) ∙ rows_stay_in_order m.opening (committed_writes m.ended) opening;
   keys = record {
-    of_row = λ t row used. sym (row_now m (t, key_of (store.tables t) row) k) ∙ sym (shown_now m store t row h used);
-    of_none = λ key none. sym (row_now m key k) ∙ ap (λ (l : List Variation). row_seen (last (counts_in m) l)) (no_row_no_chain m store key h none);
+    of_row = λ t row used. sym (row_now m (t, key_of (store.tables t) row) k) ∙ sym (shown_now parts m store t row h used);
+    of_none = λ key none. sym (row_now m key k) ∙ ap (λ (l : List Variation). row_seen (last (counts_in m) l)) (no_row_no_chain parts m store key h none);
   };
 }
 
 -- ---- a reader
 
-slot_sees : (m : Machine) (all : Transactions) (table : Table) (t : ℕ) (x : Open) (n : ℕ) → Mirrors m all
-    → is_visible (m.base + x.number) x.snap (view_of all table n) ≡ sees m x (variation_in m.base t (table.slot n))
-slot_sees m all table t x n mirrors =
+slot_sees : (parts : Parts) (m : Machine) (all : Transactions) (table : Table) (t : ℕ) (x : Open) (n : ℕ) → Mirrors m all
+    → is_visible (m.base + x.number) x.snap (view_of all table n) ≡ sees m x (variation_in parts m.base t (table.slot n))
+slot_sees parts m all table t x n mirrors =
     let xn = (table.slot n).xn in
     let is_own : Bool = xn == m.base + x.number in
-    let write = write_of t (table.slot n) in
+    let write = write_of parts t (table.slot n) in
     let known : is_visible (m.base + x.number) x.snap (view_of all table n) ≡ (is_own || is_done x.snap (standing_in m (Some xn))) =
     ap (λ (s : Standing). is_own || is_done x.snap s) (mirrored_standing m all xn mirrors) in
     ⊎_elim
@@ -155,38 +156,38 @@ seen_place all store own snapshot t row =
     ∙ mapped_twice view (λ (v : SlotView). v.slot) found
     ∙ mapped_to_itself found
 
-pub seen_in_cells : (m : Machine) (all : Transactions) (store : Store) (x : Open) (t row : ℕ) → HoldsChains m store → Mirrors m all
+pub seen_in_cells : (parts : Parts) (m : Machine) (all : Transactions) (store : Store) (x : Open) (t row : ℕ) → HoldsChains parts m store → Mirrors m all
     → IsUsedRow (store.tables t) row
-    → option_map (λ slot. variation_in m.base t ((store.tables t).slot slot)) (slot_seen all store (m.base + x.number) x.snap t row)
+    → option_map (λ slot. variation_in parts m.base t ((store.tables t).slot slot)) (slot_seen all store (m.base + x.number) x.snap t row)
     ≡ seen m x (t, key_of (store.tables t) row)
 unfolding seen
-seen_in_cells m all store x t row h mirrors used =
+seen_in_cells parts m all store x t row h mirrors used =
     let table = store.tables t in
     let places = (store.layouts t).chain row in
-    let at : ℕ → Variation = λ n. variation_in m.base t (table.slot n) in
+    let at : ℕ → Variation = λ n. variation_in parts m.base t (table.slot n) in
     let visible : ℕ → Bool = λ n. is_visible (m.base + x.number) x.snap (view_of all table n) in
     ap (option_map at) (seen_place all store (m.base + x.number) x.snap t row
-    ∙ find_alike visible (λ n. sees m x (at n)) places (λ i d lt. slot_sees m all table t x (get_or places i d) mirrors))
+    ∙ find_alike visible (λ n. sees m x (at n)) places (λ i d lt. slot_sees parts m all table t x (get_or places i d) mirrors))
     ∙ sym (find_mapped (sees m x) at places)
-    ∙ ap (find (sees m x)) (sym (map-map (variation_in m.base t) table.slot places))
-    ∙ ap (find (sees m x)) (sym (chain_of_row m store t row h used))
+    ∙ ap (find (sees m x)) (sym (map-map (variation_in parts m.base t) table.slot places))
+    ∙ ap (find (sees m x)) (sym (chain_of_row parts m store t row h used))
 
-row_of_place : (base t : ℕ) (table : Table) (o : Option ℕ)
-    → row_left None (option_map (λ n. write_of t (table.slot n)) o) ≡ row_seen (option_map (λ n. variation_in base t (table.slot n)) o)
-row_of_place base t table None = refl
-row_of_place base t table (Some n) = refl
+row_of_place : (parts : Parts) (base t : ℕ) (table : Table) (o : Option ℕ)
+    → row_left None (option_map (λ n. write_of parts t (table.slot n)) o) ≡ row_seen (option_map (λ n. variation_in parts base t (table.slot n)) o)
+row_of_place parts base t table None = refl
+row_of_place parts base t table (Some n) = refl
 
-pub row_in_cells : (m : Machine) (all : Transactions) (store : Store) (session : ℕ) (x : Open) (t row : ℕ) → HoldsChains m store → IsKept m → Mirrors m all
+pub row_in_cells : (parts : Parts) (m : Machine) (all : Transactions) (store : Store) (session : ℕ) (x : Open) (t row : ℕ) → HoldsChains parts m store → IsKept m → Mirrors m all
     → open_of m session ≡ Some x → IsUsedRow (store.tables t) row
-    → row_left None (option_map (λ slot. write_of t ((store.tables t).slot slot)) (slot_seen all store (m.base + x.number) x.snap t row))
+    → row_left None (option_map (λ slot. write_of parts t ((store.tables t).slot slot)) (slot_seen all store (m.base + x.number) x.snap t row))
     ≡ row_at (t, key_of (store.tables t) row) (view m x)
-row_in_cells m all store session x t row h k mirrors at used =
-    row_of_place m.base t (store.tables t) (slot_seen all store (m.base + x.number) x.snap t row)
-    ∙ ap row_seen (seen_in_cells m all store x t row h mirrors used)
+row_in_cells parts m all store session x t row h k mirrors at used =
+    row_of_place parts m.base t (store.tables t) (slot_seen all store (m.base + x.number) x.snap t row)
+    ∙ ap row_seen (seen_in_cells parts m all store x t row h mirrors used)
     ∙ seen_row m session x (t, key_of (store.tables t) row) k at
 
-pub no_row_in_cells : (m : Machine) (store : Store) (session : ℕ) (x : Open) (key : Key) → HoldsChains m store → IsKept m → open_of m session ≡ Some x
+pub no_row_in_cells : (parts : Parts) (m : Machine) (store : Store) (session : ℕ) (x : Open) (key : Key) → HoldsChains parts m store → IsKept m → open_of m session ≡ Some x
     → ((row : ℕ) → IsUsedRow (store.tables key.0) row → key_of (store.tables key.0) row ≢ key.1) → row_at key (view m x) ≡ None
 unfolding seen
-no_row_in_cells m store session x key h k at none =
-    sym (seen_row m session x key k at) ∙ ap (λ (l : List Variation). row_seen (find (sees m x) (reverse l))) (no_row_no_chain m store key h none)
+no_row_in_cells parts m store session x key h k at none =
+    sym (seen_row m session x key k at) ∙ ap (λ (l : List Variation). row_seen (find (sees m x) (reverse l))) (no_row_no_chain parts m store key h none)

@@ -24,6 +24,7 @@ use Rattle.px_cell_laws.proofs.Calling.{reads_leave}
 use Rattle.px_cell_laws.proofs.Ending.{commit_holds}
 use Rattle.px_cell_laws.proofs.Showing.{committed_shown}
 use Rattle.px_cell_laws.proofs.Writing.{put_holds}
+use Rattle.px_shown.specs.Parts.{Parts}
 
 new_kept : IsKept new_machine
 new_kept = kept_fresh 2 16 [] 0 2
@@ -37,16 +38,16 @@ written_kept = kept_call begun 0 (Insert 2 key 7 body) begun_kept
 committed_kept : IsKept committed
 committed_kept = kept_call written 0 Commit written_kept
 
-pub new_holds : HoldsChains new_machine nothing
-new_holds = tidied_holds 2 16 [] 0 2 nothing
+pub new_holds : (parts : Parts) → HoldsChains parts new_machine nothing
+new_holds parts = tidied_holds parts 2 16 [] 0 2 nothing
     (no_cells_sound 16 nothing.tables (λ t. refl))
     (record { each = λ t row used. absurd (omega (arith, used.0.0, used.0.1)) })
-    (none_shown nothing.tables nothing.layouts nothing.done (λ t. refl))
+    (none_shown parts nothing.tables nothing.layouts nothing.done (λ t. refl))
     (λ t row used. absurd (omega (arith, used.0.0, used.0.1)))
     (λ xn past. record { undone = refl; not_over = refl })
 
-pub begun_holds : HoldsChains begun nothing
-begun_holds = reads_leave new_machine nothing 0 Begin new_holds new_kept refl refl
+pub begun_holds : (parts : Parts) → HoldsChains parts begun nothing
+begun_holds parts = reads_leave parts new_machine nothing 0 Begin (new_holds parts) new_kept refl refl
 
 first : Open
 first = record { number = 1; snap = 0; writes = []; kept = [] }
@@ -55,9 +56,9 @@ stored : IsStored 16 written_by_3
 unfolding is_slot
 stored = record { form = refl; used = λ e. cc }
 
-first_write : IsWriteBy begun nothing 0 (Insert 2 key 7 body) 2 one_place written_by_3
+first_write : (parts : Parts) → IsWriteBy parts begun nothing 0 (Insert 2 key 7 body) 2 one_place written_by_3
 unfolding first fresh state_after state_when_done reply_of begins_spent write_refusal has_table fits_key fits_body longest_body conflict_of is_full view same_key key_cmp
-first_write = record {
+first_write parts = record {
   xact = first;
   is_open = refl;
   answered = refl;
@@ -67,9 +68,9 @@ first_write = record {
   link = inl (record { slots = refl; rows = refl; its_row = refl; next = refl; its_key = λ row used. absurd (omega (arith, used.0.0, used.0.1)) });
 }
 
-pub written_holds : HoldsChains written one_version
+pub written_holds : (parts : Parts) → HoldsChains parts written one_version
 unfolding fresh state_after state_when_done reply_of begins_spent
-written_holds = put_holds begun nothing 0 (Insert 2 key 7 body) 2 one_place written_by_3 begun_holds begun_kept first_write
+written_holds parts = put_holds parts begun nothing 0 (Insert 2 key 7 body) 2 one_place written_by_3 (begun_holds parts) begun_kept (first_write parts)
 
 writer : Open
 writer = record { number = 1; snap = 0; writes = Put (row_with body) ∷ []; kept = [] }
@@ -78,15 +79,15 @@ writer_open : open_of written 0 ≡ Some writer
 unfolding writer fresh state_after state_when_done reply_of begins_spent write_refusal has_table fits_key fits_body longest_body conflict_of is_full view same_key key_cmp
 writer_open = refl
 
-pub committed_holds : HoldsChains committed one_row
+pub committed_holds : (parts : Parts) → HoldsChains parts committed one_row
 unfolding writer fresh state_after state_when_done reply_of begins_spent write_refusal has_table fits_key fits_body longest_body conflict_of is_full view
-committed_holds = commit_holds written one_version 0 writer written_holds written_kept writer_open (λ none. cc)
+committed_holds parts = commit_holds parts written one_version 0 writer (written_holds parts) written_kept writer_open (λ none. cc)
 
 one_row_now : published committed (commits committed - committed.before) ≡ row_with body ∷ []
 unfolding published commits fresh state_after state_when_done reply_of begins_spent write_refusal has_table fits_key fits_body longest_body conflict_of is_full view same_key key_cmp
 one_row_now = refl
 
-pub committed_shows : Shows one_row.tables one_row.layouts one_row.done (row_with body ∷ [])
+pub committed_shows : (parts : Parts) → Shows parts one_row.tables one_row.layouts one_row.done (row_with body ∷ [])
 unfolding fresh state_after state_when_done reply_of begins_spent write_refusal has_table fits_key fits_body longest_body conflict_of is_full view
-committed_shows =
-    subst (λ (rows : List Row). Shows one_row.tables one_row.layouts one_row.done rows) one_row_now (committed_shown committed one_row committed_holds committed_kept refl)
+committed_shows parts =
+    subst (λ (rows : List Row). Shows parts one_row.tables one_row.layouts one_row.done rows) one_row_now (committed_shown parts committed one_row (committed_holds parts) committed_kept refl)

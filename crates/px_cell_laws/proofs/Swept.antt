@@ -34,6 +34,7 @@ use Rattle.px_cell_laws.proofs.Cutting.{gone_part, left_mapped, left_parts}
 use Rattle.px_cell_laws.proofs.Ended.{IsDoneOrOver}
 use Rattle.px_cell_laws.proofs.Ends.{KeepsBase}
 use Rattle.px_cell_laws.proofs.Sweeping.{IsCut, cut}
+use Rattle.px_shown.specs.Parts.{Parts}
 
 -- ---- who is over
 
@@ -73,12 +74,12 @@ other_chain m store w t row place key at other =
 
 -- ---- where nothing goes
 
-pub nothing_goes : (m : Machine) (store : Store) (w : Flat) (t row place : ℕ) → HoldsChains m store → IsKept m → IsSweptAt m store w t row place
-    → sweep_count_of store w t row place ≡ 0 → HoldsChains (swept_state m) store
-nothing_goes m store w t row place h k at none =
-    let c = cut m store w t row place h k at in
+pub nothing_goes : (parts : Parts) (m : Machine) (store : Store) (w : Flat) (t row place : ℕ) → HoldsChains parts m store → IsKept m → IsSweptAt m store w t row place
+    → sweep_count_of store w t row place ≡ 0 → HoldsChains parts (swept_state m) store
+nothing_goes parts m store w t row place h k at none =
+    let c = cut parts m store w t row place h k at in
     let n = swept_state m in
-    let v = variation_in m.base t in
+    let v = variation_in parts m.base t in
     let its : Key = (t, key_of (store.tables t) row) in
     let gone : c.gone ≡ [] = nil_from_length c.gone (sym c.many ∙ none) in
     let here : reverse (chain n its) ≡ reverse (chain m its) =
@@ -86,8 +87,8 @@ nothing_goes m store w t row place h k at none =
     ∙ sym c.left
     ∙ ap (λ (l : List Slot). map v (c.before ++ (l ++ c.behind))) (sym gone)
     ∙ ap (map v) (sym c.split)
-    ∙ sym (chain_of_row m store t row h at.used) in
-    holds_the_same m n store h (sweep_keeps_base m) (sweep_keeps_ended m) (λ key. ⊎_elim
+    ∙ sym (chain_of_row parts m store t row h at.used) in
+    holds_the_same parts m n store h (sweep_keeps_base m) (sweep_keeps_ended m) (λ key. ⊎_elim
     (λ (same : key ≡ its).
     ap (chain n) same
     ∙ sym (reverse-reverse (chain n its))
@@ -99,53 +100,53 @@ nothing_goes m store w t row place h k at none =
 
 -- ---- where some go
 
-cut_left : (m : Machine) (store : Store) (w : Flat) (t row from count : ℕ) → (c : IsCut m store w t row from count)
+cut_left : (parts : Parts) (m : Machine) (store : Store) (w : Flat) (t row from count : ℕ) → (c : IsCut parts m store w t row from count)
     → map (store.tables t).slot (left_of ((store.layouts t).chain row) from count) ≡ c.before ++ c.behind
-cut_left m store w t row from count c =
+cut_left parts m store w t row from count c =
     left_mapped (store.tables t).slot ((store.layouts t).chain row) from count
     ∙ ap (λ (l : List Slot). left_of l from count) c.split
     ∙ ap (λ (i : ℕ). left_of (c.before ++ (c.gone ++ c.behind)) i count) c.first
     ∙ ap (left_of (c.before ++ (c.gone ++ c.behind)) (length c.before)) c.many
     ∙ left_parts c.before c.gone c.behind
 
-cut_gone : (m : Machine) (store : Store) (w : Flat) (t row from count : ℕ) → (c : IsCut m store w t row from count) → versions_from store t row from count ≡ c.gone
-cut_gone m store w t row from count c =
+cut_gone : (parts : Parts) (m : Machine) (store : Store) (w : Flat) (t row from count : ℕ) → (c : IsCut parts m store w t row from count) → versions_from store t row from count ≡ c.gone
+cut_gone parts m store w t row from count c =
     ap (λ (l : List Slot). take count (drop from l)) c.split
     ∙ ap (λ (i : ℕ). take count (drop i (c.before ++ (c.gone ++ c.behind)))) c.first
     ∙ ap (λ (i : ℕ). take i (drop (length c.before) (c.before ++ (c.gone ++ c.behind)))) c.many
     ∙ gone_part c.before c.gone c.behind
 
-pub sweep_changes : (m : Machine) (store : Store) (w : Flat) (t row place from count : ℕ) → HoldsChains m store → IsSweptAt m store w t row place
-    → IsCut m store w t row from count → 1 ≤ count
+pub sweep_changes : (parts : Parts) (m : Machine) (store : Store) (w : Flat) (t row place from count : ℕ) → HoldsChains parts m store → IsSweptAt m store w t row place
+    → IsCut parts m store w t row from count → 1 ≤ count
     → let next = after_unlink store t row from count in
     IsChanged (chains_of store.tables store.layouts) (chains_of next.tables next.layouts) t row (key_of (store.tables t) row)
     (map (store.tables t).slot (left_of ((store.layouts t).chain row) from count))
-sweep_changes m store w t row place from count h at c some =
-    unlink_changes m.short store.tables store.layouts t row from count h.sound at.used some (within_row m store w t row from count c)
+sweep_changes parts m store w t row place from count h at c some =
+    unlink_changes m.short store.tables store.layouts t row from count h.sound at.used some (within_row parts m store w t row from count c)
 
-swept_chains : (m : Machine) (store : Store) (w : Flat) (t row place from count : ℕ) → HoldsChains m store → IsSweptAt m store w t row place
-    → IsCut m store w t row from count → 1 ≤ count
+swept_chains : (parts : Parts) (m : Machine) (store : Store) (w : Flat) (t row place from count : ℕ) → HoldsChains parts m store → IsSweptAt m store w t row place
+    → IsCut parts m store w t row from count → 1 ≤ count
     → let next = after_unlink store t row from count in
-    AreSound m.short next.tables next.layouts → AreToldByChains next.tables next.layouts (variations_in m.base) (newest_first (swept_state m))
-swept_chains m store w t row place from count h at c some sound =
+    AreSound m.short next.tables next.layouts → AreToldByChains next.tables next.layouts (variations_in parts m.base) (newest_first (swept_state m))
+swept_chains parts m store w t row place from count h at c some sound =
     let n = swept_state m in
     let next = after_unlink store t row from count in
     let key = key_of (store.tables t) row in
     let slots = map (store.tables t).slot (left_of ((store.layouts t).chain row) from count) in
-    let here : newest_first n (t, key) ≡ variations_in m.base t slots =
+    let here : newest_first n (t, key) ≡ variations_in parts m.base t slots =
     ap (newest_first n) at.its_key
     ∙ ap if_any (sym c.left)
-    ∙ ap (variations_in m.base t) (sym (cut_left m store w t row from count c)) in
-    told_of_rows m.short next.tables next.layouts (variations_in m.base) (newest_first n) sound
-    (told_changed (chains_of store.tables store.layouts) (chains_of next.tables next.layouts) t row key slots (variations_in m.base) (newest_first m) (newest_first n)
-    (sweep_changes m store w t row place from count h at c some) (variations_blind m.base)
-    (told_by_rows m.short store.tables store.layouts (variations_in m.base) (newest_first m) h.sound h.chains)
+    ∙ ap (variations_in parts m.base t) (sym (cut_left parts m store w t row from count c)) in
+    told_of_rows m.short next.tables next.layouts (variations_in parts m.base) (newest_first n) sound
+    (told_changed (chains_of store.tables store.layouts) (chains_of next.tables next.layouts) t row key slots (variations_in parts m.base) (newest_first m) (newest_first n)
+    (sweep_changes parts m store w t row place from count h at c some) (variations_blind parts m.base)
+    (told_by_rows m.short store.tables store.layouts (variations_in parts m.base) (newest_first m) h.sound h.chains)
     (λ q apart. ap (λ (l : List Variation). if_any (reverse l)) (other_chain m store w t row place q at apart))
     here)
 
-cut_holds : (m : Machine) (store : Store) (w : Flat) (t row place from count : ℕ) → HoldsChains m store → IsSweptAt m store w t row place
-    → IsCut m store w t row from count → 1 ≤ count → HoldsChains (swept_state m) (after_unlink store t row from count)
-cut_holds m store w t row place from count h at c some =
+cut_holds : (parts : Parts) (m : Machine) (store : Store) (w : Flat) (t row place from count : ℕ) → HoldsChains parts m store → IsSweptAt m store w t row place
+    → IsCut parts m store w t row from count → 1 ≤ count → HoldsChains parts (swept_state m) (after_unlink store t row from count)
+cut_holds parts m store w t row place from count h at c some =
     let n = swept_state m in
     let next = after_unlink store t row from count in
     let places = (store.layouts t).chain row in
@@ -153,21 +154,21 @@ cut_holds m store w t row place from count h at c some =
     let keeps = sweep_keeps_base m in
     let ended = sweep_keeps_ended m in
     let sound : AreSound m.short next.tables next.layouts =
-    unlink_stays_sound m.short store.tables store.layouts t row from count h.sound at.used some (within_row m store w t row from count c) in
+    unlink_stays_sound m.short store.tables store.layouts t row from count h.sound at.used some (within_row parts m store w t row from count c) in
     let P : ℕ → Type 0 = λ xn. xn ≤ m.base → store.done xn ≡ true in
     let IsFound : Slot → Type 0 = λ slot. P slot.xn in
     let found_left : All IsFound (map (store.tables t).slot (left_of places from count)) =
     All-same IsFound (map (store.tables t).slot (left_of places from count)) (left_of slots from count) (left_mapped (store.tables t).slot places from count)
     (All-append IsFound (take from slots) (drop count (drop from slots)) (All-take IsFound from slots (h.found t row))
     (All-drop IsFound count (drop from slots) (All-drop IsFound from slots (h.found t row)))) in
-    let past = All-same (λ (slot : Slot). IsDoneOrOver store slot.xn) (versions_from store t row from count) c.gone (cut_gone m store w t row from count c) c.ended in
+    let past = All-same (λ (slot : Slot). IsDoneOrOver store slot.xn) (versions_from store t row from count) c.gone (cut_gone parts m store w t row from count c) c.ended in
     record {
       sound = subst (λ (short : ℕ). AreSound short next.tables next.layouts) (sym keeps.short) sound;
-      chains = subst (λ (base : ℕ). AreToldByChains next.tables next.layouts (variations_in base) (newest_first n)) (sym keeps.base)
-          (swept_chains m store w t row place from count h at c some sound);
+      chains = subst (λ (base : ℕ). AreToldByChains next.tables next.layouts (variations_in parts base) (newest_first n)) (sym keeps.base)
+          (swept_chains parts m store w t row place from count h at c some sound);
       found = found_of next m.base n.base keeps.base
           (numbers_changed P (chains_of store.tables store.layouts) (chains_of next.tables next.layouts) t row (key_of (store.tables t) row) (map (store.tables t).slot (left_of places from count))
-          (sweep_changes m store w t row place from count h at c some) h.found found_left);
+          (sweep_changes parts m store w t row place from count h at c some) h.found found_left);
       done = λ xn above. h.done xn (omega (arith, above, keeps.base)) ∙ ap is_committed (sym (same_standing m n (Some xn) keeps.base ended));
       over = λ xn above.
           over_stays store (versions_from store t row from count) xn past
@@ -175,9 +176,9 @@ cut_holds m store w t row place from count h at c some =
           ∙ ap is_rolled_back (sym (same_standing m n (Some xn) keeps.base ended));
     }
 
-pub sweep_holds : (m : Machine) (store : Store) (w : Flat) (t row place : ℕ) → HoldsChains m store → IsKept m → IsSweptAt m store w t row place
-    → 1 ≤ sweep_count_of store w t row place → HoldsChains (swept_state m) (after_step store (sweep_of store w t row place))
-sweep_holds m store w t row place h k at some = cut_holds m store w t row place _ _ h at (cut m store w t row place h k at) some
+pub sweep_holds : (parts : Parts) (m : Machine) (store : Store) (w : Flat) (t row place : ℕ) → HoldsChains parts m store → IsKept m → IsSweptAt m store w t row place
+    → 1 ≤ sweep_count_of store w t row place → HoldsChains parts (swept_state m) (after_step store (sweep_of store w t row place))
+sweep_holds parts m store w t row place h k at some = cut_holds parts m store w t row place _ _ h at (cut parts m store w t row place h k at) some
 
 -- ---- how many go
 

@@ -11,15 +11,16 @@ use Rattle.px_chain.specs.Links.{BeginsRow, IsStored, VariesRow}
 use Rattle.px_chain_laws.specs.Writing as calls
 use Rattle.px_history.specs.Store.{Store}
 use Rattle.px_shown.specs.Shown.{write_of}
+use Rattle.px_shown.specs.Parts.{Parts}
 
 -- The session's transaction writes by the call, which is answered; the slot is its version, and may be linked in this table
 -- with that header.
-pub record IsWriteBy (m : Machine) (store : Store) (session : ℕ) (call : Call) (t : ℕ) (header : Header) (slot : Slot)
+pub record IsWriteBy (parts : Parts) (m : Machine) (store : Store) (session : ℕ) (call : Call) (t : ℕ) (header : Header) (slot : Slot)
     : Type 0 where
   pub xact : Open
   pub is_open : open_of m session ≡ Some xact
   pub answered : is_refusal (reply_of m session call) ≡ false
-  pub write : calls.write_of call ≡ Some (write_of t slot)
+  pub write : calls.write_of call ≡ Some (write_of parts t slot)
   pub number : slot.xn ≡ m.base + xact.number
   pub stored : IsStored m.short slot
   pub link : BeginsRow (store.tables t) header slot ⊎ VariesRow (store.tables t) header slot

@@ -21,6 +21,7 @@ ghost use Rattle.px_model.specs.declared.row.Row.{Row};
 ghost use Rattle.px_model.specs.declared.write.Write.{Write};
 ghost use Rattle.px_machine_laws.specs.Seen.{row_left};
 ghost use Rattle.px_shown.specs.Example.{row_with};
+ghost use Rattle.px_shown.specs.Parts.{Parts};
 ghost use Rattle.px_shown.specs.Shown.{Shows, write_of};
 ghost use Rattle.px_shown.specs.Tables.{AreSound};
 ghost use Rattle.px_tables.specs.Linking.{FitsSlot, version_of};
@@ -37,28 +38,28 @@ ghost use Rattle.px_cell_laws.specs.Writing.{IsWriteBy, is_end};
 
 /// The versions of a row are the machine's chain of its key, the newest first; a key without a row has no chain.
 pub fn a_key_has_the_chain_of_its_row()
-    ensures row { (m : Machine) (store : Store) (t row : ℕ) → HoldsChains m store → IsUsedRow (store.tables t) row
-        → reverse (chain m (t, key_of (store.tables t) row)) ≡ map (variation_in m.base t) (versions_of store t row) }
-    ensures none { (m : Machine) (store : Store) (key : Key) → HoldsChains m store
+    ensures row { (parts : Parts) (m : Machine) (store : Store) (t row : ℕ) → HoldsChains parts m store → IsUsedRow (store.tables t) row
+        → reverse (chain m (t, key_of (store.tables t) row)) ≡ map (variation_in parts m.base t) (versions_of store t row) }
+    ensures none { (parts : Parts) (m : Machine) (store : Store) (key : Key) → HoldsChains parts m store
         → ((row : ℕ) → IsUsedRow (store.tables key.0) row → key_of (store.tables key.0) row ≢ key.1)
         → chain m key ≡ [] }
 {}
 
 /// A transaction that is open may still commit, as may each one that is still to begin.
 pub fn open_transactions_may_commit()
-    ensures begun { (m : Machine) (store : Store) (session : ℕ) (xact : Open) → HoldsChains m store → IsKept m
+    ensures begun { (parts : Parts) (m : Machine) (store : Store) (session : ℕ) (xact : Open) → HoldsChains parts m store → IsKept m
         → open_of m session ≡ Some xact → IsOpen store (m.base + xact.number) }
-    ensures unbegun { (m : Machine) (store : Store) (xn : ℕ) → HoldsChains m store → IsKept m → m.base + m.begun < xn
+    ensures unbegun { (parts : Parts) (m : Machine) (store : Store) (xn : ℕ) → HoldsChains parts m store → IsKept m → m.base + m.begun < xn
         → IsOpen store xn }
 {}
 
 /// A store in which nothing is left to tidy holds the chains of a fresh machine with the rows that it shows, where the numbers
 /// of its versions go up to the base, and no transaction past that is done or over. Its rows have no writer.
 pub fn a_tidied_store_holds_a_fresh_machine()
-    ensures chains { (tables short : ℕ) (rows : List Row) (before base : ℕ) (store : Store)
-        → AreSound short store.tables store.layouts → IsTidied store → Shows store.tables store.layouts store.done rows
+    ensures chains { (parts : Parts) (tables short : ℕ) (rows : List Row) (before base : ℕ) (store : Store)
+        → AreSound short store.tables store.layouts → IsTidied store → Shows parts store.tables store.layouts store.done rows
         → ((t row : ℕ) → IsUsedRow (store.tables t) row → All (λ slot. slot.xn ≤ base) (versions_of store t row))
-        → ((xn : ℕ) → base < xn → IsOpen store xn) → HoldsChains (fresh tables short rows before base) store }
+        → ((xn : ℕ) → base < xn → IsOpen store xn) → HoldsChains parts (fresh tables short rows before base) store }
     ensures writers { (short : ℕ) (store : Store) → AreSound short store.tables store.layouts → IsTidied store
         → HaveOneWriter store }
 {}
@@ -67,71 +68,71 @@ pub fn a_tidied_store_holds_a_fresh_machine()
 /// commit has a version in that row, and the store after it holds the chains after the call. The write fits a slot, and the version
 /// that a table in memory prepares for it is such a one.
 pub fn a_write_is_a_put()
-    ensures step { (m : Machine) (store : Store) (session : ℕ) (call : Call) (t : ℕ) (header : Header) (slot : Slot)
-        → HoldsChains m store → IsKept m → IsWriteBy m store session call t header slot
-        → IsStep m.short store (Step.put t header slot) }
-    ensures alone { (m : Machine) (store : Store) (session : ℕ) (call : Call) (t : ℕ) (header : Header) (slot : Slot)
-        → HoldsChains m store → IsKept m → IsWriteBy m store session call t header slot
+    ensures step { (parts : Parts) (m : Machine) (store : Store) (session : ℕ) (call : Call) (t : ℕ) (header : Header) (slot : Slot)
+        → HoldsChains parts m store → IsKept m → IsWriteBy parts m store session call t header slot
+        → IsStep parts m.short store (Step.put t header slot) }
+    ensures alone { (parts : Parts) (m : Machine) (store : Store) (session : ℕ) (call : Call) (t : ℕ) (header : Header) (slot : Slot)
+        → HoldsChains parts m store → IsKept m → IsWriteBy parts m store session call t header slot
         → IsAlone store (Step.put t header slot) }
-    ensures chains { (m : Machine) (store : Store) (session : ℕ) (call : Call) (t : ℕ) (header : Header) (slot : Slot)
-        → HoldsChains m store → IsKept m → IsWriteBy m store session call t header slot
-        → HoldsChains (state_after m session call) (after_step store (Step.put t header slot)) }
+    ensures chains { (parts : Parts) (m : Machine) (store : Store) (session : ℕ) (call : Call) (t : ℕ) (header : Header) (slot : Slot)
+        → HoldsChains parts m store → IsKept m → IsWriteBy parts m store session call t header slot
+        → HoldsChains parts (state_after m session call) (after_step store (Step.put t header slot)) }
     ensures fits { (m : Machine) (session : ℕ) (call : Call) (w : Write) → calls.write_of call ≡ Some w
         → is_refusal (reply_of m session call) ≡ false → FitsSlot m.short w }
-    ensures version { (xn next row : ℕ) (w : Write) → write_of (key_written w).0 (version_of xn next row w) ≡ w }
+    ensures version { (parts : Parts) (xn next row : ℕ) (w : Write) → write_of parts (key_written w).0 (version_of xn next row w) ≡ w }
 {}
 
 /// An end of a transaction with writes goes with its commit or its rollback: that may follow, and the store after it holds the
 /// chains after the call.
 pub fn an_end_is_a_step()
-    ensures commit { (m : Machine) (store : Store) (session : ℕ) (xact : Open) → HoldsChains m store → IsKept m
+    ensures commit { (parts : Parts) (m : Machine) (store : Store) (session : ℕ) (xact : Open) → HoldsChains parts m store → IsKept m
         → HaveOneWriter store → open_of m session ≡ Some xact
-        → IsStep m.short store (Step.commit (m.base + xact.number) (commits m + 1)) }
-    ensures committed { (m : Machine) (store : Store) (session : ℕ) (xact : Open) → HoldsChains m store → IsKept m
+        → IsStep parts m.short store (Step.commit (m.base + xact.number) (commits m + 1)) }
+    ensures committed { (parts : Parts) (m : Machine) (store : Store) (session : ℕ) (xact : Open) → HoldsChains parts m store → IsKept m
         → open_of m session ≡ Some xact → xact.writes ≢ []
-        → HoldsChains (state_after m session Commit) (after_step store (Step.commit (m.base + xact.number) (commits m + 1))) }
-    ensures rollback { (m : Machine) (store : Store) (session : ℕ) (xact : Open) → HoldsChains m store → IsKept m
-        → open_of m session ≡ Some xact → IsStep m.short store (Step.rollback (m.base + xact.number)) }
-    ensures rolled_back { (m : Machine) (store : Store) (session : ℕ) (xact : Open) → HoldsChains m store → IsKept m
+        → HoldsChains parts (state_after m session Commit) (after_step store (Step.commit (m.base + xact.number) (commits m + 1))) }
+    ensures rollback { (parts : Parts) (m : Machine) (store : Store) (session : ℕ) (xact : Open) → HoldsChains parts m store → IsKept m
+        → open_of m session ≡ Some xact → IsStep parts m.short store (Step.rollback (m.base + xact.number)) }
+    ensures rolled_back { (parts : Parts) (m : Machine) (store : Store) (session : ℕ) (xact : Open) → HoldsChains parts m store → IsKept m
         → open_of m session ≡ Some xact → xact.writes ≢ []
-        → HoldsChains (state_after m session Rollback) (after_step store (Step.rollback (m.base + xact.number))) }
+        → HoldsChains parts (state_after m session Rollback) (after_step store (Step.rollback (m.base + xact.number))) }
 {}
 
 /// A begin, a read, a call that is refused and an end of a transaction without writes leave the store as it is, and it holds the
 /// chains after the call.
 pub fn other_calls_leave_the_cells()
-    ensures refused { (m : Machine) (store : Store) (session : ℕ) (call : Call) → HoldsChains m store
-        → is_refusal (reply_of m session call) ≡ true → HoldsChains (state_after m session call) store }
-    ensures reads { (m : Machine) (store : Store) (session : ℕ) (call : Call) → HoldsChains m store → IsKept m
-        → calls.write_of call ≡ None → is_end call ≡ false → HoldsChains (state_after m session call) store }
-    ensures wrote_nothing { (m : Machine) (store : Store) (session : ℕ) (call : Call) (xact : Open)
-        → HoldsChains m store → IsKept m → is_end call ≡ true → open_of m session ≡ Some xact → xact.writes ≡ []
-        → HoldsChains (state_after m session call) store }
+    ensures refused { (parts : Parts) (m : Machine) (store : Store) (session : ℕ) (call : Call) → HoldsChains parts m store
+        → is_refusal (reply_of m session call) ≡ true → HoldsChains parts (state_after m session call) store }
+    ensures reads { (parts : Parts) (m : Machine) (store : Store) (session : ℕ) (call : Call) → HoldsChains parts m store → IsKept m
+        → calls.write_of call ≡ None → is_end call ≡ false → HoldsChains parts (state_after m session call) store }
+    ensures wrote_nothing { (parts : Parts) (m : Machine) (store : Store) (session : ℕ) (call : Call) (xact : Open)
+        → HoldsChains parts m store → IsKept m → is_end call ≡ true → open_of m session ≡ Some xact → xact.writes ≡ []
+        → HoldsChains parts (state_after m session call) store }
 {}
 
 /// The write that is swept next made a version that still stands in the row of its key; behind that stands the base alone, if
 /// there is one.
 pub fn a_swept_write_has_its_version()
-    ensures there { (m : Machine) (store : Store) (w : Flat) → HoldsChains m store
+    ensures there { (parts : Parts) (m : Machine) (store : Store) (w : Flat) → HoldsChains parts m store
         → slice_get (flat m) m.swept ≡ Some w → w.place < horizon m
         → (row place : ℕ) × IsSweptAt m store w (key_written w.write).0 row place }
-    ensures slot { (m : Machine) (store : Store) (w : Flat) (t row place : ℕ) (slot : Slot) → HoldsChains m store
+    ensures slot { (parts : Parts) (m : Machine) (store : Store) (w : Flat) (t row place : ℕ) (slot : Slot) → HoldsChains parts m store
         → IsSweptAt m store w t row place → slice_get (versions_of store t row) place ≡ Some slot
-        → (slot.xn ≡ m.base + w.number) × (write_of t slot ≡ w.write) }
+        → (slot.xn ≡ m.base + w.number) × (write_of parts t slot ≡ w.write) }
 {}
 
 /// A sweep goes with an unlink, of one version or two: behind a row that committed the base goes; a deletion that committed goes
 /// with the base; what was rolled back goes alone. The unlink may follow, and the store after it holds the chains after the
 /// sweep. Where nothing goes, the store holds them as it is.
 pub fn a_sweep_is_an_unlink()
-    ensures moves { (m : Machine) (store : Store) (w : Flat) (t row place : ℕ) → HoldsChains m store → IsKept m
+    ensures moves { (parts : Parts) (m : Machine) (store : Store) (w : Flat) (t row place : ℕ) → HoldsChains parts m store → IsKept m
         → IsSweptAt m store w t row place → 1 ≤ sweep_count_of store w t row place
-        → IsStep m.short store (sweep_of store w t row place) }
-    ensures chains { (m : Machine) (store : Store) (w : Flat) (t row place : ℕ) → HoldsChains m store → IsKept m
+        → IsStep parts m.short store (sweep_of store w t row place) }
+    ensures chains { (parts : Parts) (m : Machine) (store : Store) (w : Flat) (t row place : ℕ) → HoldsChains parts m store → IsKept m
         → IsSweptAt m store w t row place → 1 ≤ sweep_count_of store w t row place
-        → HoldsChains (swept_state m) (after_step store (sweep_of store w t row place)) }
-    ensures nothing { (m : Machine) (store : Store) (w : Flat) (t row place : ℕ) → HoldsChains m store → IsKept m
-        → IsSweptAt m store w t row place → sweep_count_of store w t row place ≡ 0 → HoldsChains (swept_state m) store }
+        → HoldsChains parts (swept_state m) (after_step store (sweep_of store w t row place)) }
+    ensures nothing { (parts : Parts) (m : Machine) (store : Store) (w : Flat) (t row place : ℕ) → HoldsChains parts m store → IsKept m
+        → IsSweptAt m store w t row place → sweep_count_of store w t row place ≡ 0 → HoldsChains parts (swept_state m) store }
     ensures few { (m : Machine) (store : Store) (w : Flat) (t row place : ℕ) → IsSweptAt m store w t row place
         → sweep_count_of store w t row place ≤ 2 }
 {}
@@ -143,8 +144,8 @@ pub fn unswept_writes_name_their_slots()
     ensures opening { (base : ℕ) (store : Store) → AreWrittenAt (xacts.fresh base) store }
     ensures begin { (all : Transactions) (store : Store) (session frames : ℕ) → AreWrittenAt all store
         → AreWrittenAt (xacts.after_begin all session frames) store }
-    ensures write { (m : Machine) (all : Transactions) (store : Store) (session : ℕ) (call : Call) (t : ℕ) (header : Header) (slot : Slot)
-        → Mirrors m all → HoldsChains m store → AreWrittenAt all store → IsWriteBy m store session call t header slot
+    ensures write { (parts : Parts) (m : Machine) (all : Transactions) (store : Store) (session : ℕ) (call : Call) (t : ℕ) (header : Header) (slot : Slot)
+        → Mirrors m all → HoldsChains parts m store → AreWrittenAt all store → IsWriteBy parts m store session call t header slot
         → AreWrittenAt (xacts.with_write all session (write_at store t slot)) (after_step store (Step.put t header slot)) }
     ensures end { (m : Machine) (all : Transactions) (store : Store) (session : ℕ) (committed : Bool) (xact : Open)
         → Mirrors m all → IsKept m → open_of m session ≡ Some xact → AreWrittenAt all store
@@ -153,12 +154,12 @@ pub fn unswept_writes_name_their_slots()
         → AreWrittenAt all (after_step store (Step.commit xn number)) }
     ensures rollback { (all : Transactions) (store : Store) (xn : ℕ) → AreWrittenAt all store
         → AreWrittenAt all (after_step store (Step.rollback xn)) }
-    ensures sweep { (m : Machine) (all : Transactions) (store : Store) (w : Flat) (t row place : ℕ)
-        → Mirrors m all → HoldsChains m store → IsKept m → AreWrittenAt all store
+    ensures sweep { (parts : Parts) (m : Machine) (all : Transactions) (store : Store) (w : Flat) (t row place : ℕ)
+        → Mirrors m all → HoldsChains parts m store → IsKept m → AreWrittenAt all store
         → IsSweptAt m store w t row place → 1 ≤ sweep_count_of store w t row place
         → AreWrittenAt (without_first all) (after_step store (sweep_of store w t row place)) }
-    ensures nothing { (m : Machine) (all : Transactions) (store : Store) (w : Flat) (t row place : ℕ)
-        → Mirrors m all → HoldsChains m store → AreWrittenAt all store
+    ensures nothing { (parts : Parts) (m : Machine) (all : Transactions) (store : Store) (w : Flat) (t row place : ℕ)
+        → Mirrors m all → HoldsChains parts m store → AreWrittenAt all store
         → IsSweptAt m store w t row place → AreWrittenAt (without_first all) store }
 {}
 
@@ -166,34 +167,34 @@ pub fn unswept_writes_name_their_slots()
 /// is found there is the version's. Whose write it is, and whether that committed, is as the
 /// machine has it.
 pub fn what_is_due_is_found_in_its_row()
-    ensures there { (m : Machine) (all : Transactions) (store : Store) (due : Due)
-        → Mirrors m all → HoldsChains m store → AreWrittenAt all store → xacts.due all ≡ Some due
+    ensures there { (parts : Parts) (m : Machine) (all : Transactions) (store : Store) (due : Due)
+        → Mirrors m all → HoldsChains parts m store → AreWrittenAt all store → xacts.due all ≡ Some due
         → IsUsedRow (store.tables due.table) due.row × Contains ((store.layouts due.table).chain due.row) due.slot }
-    ensures swept { (m : Machine) (all : Transactions) (store : Store) (due : Due) (place : ℕ)
-        → Mirrors m all → HoldsChains m store → AreWrittenAt all store → xacts.due all ≡ Some due
+    ensures swept { (parts : Parts) (m : Machine) (all : Transactions) (store : Store) (due : Due) (place : ℕ)
+        → Mirrors m all → HoldsChains parts m store → AreWrittenAt all store → xacts.due all ≡ Some due
         → slice_get ((store.layouts due.table).chain due.row) place ≡ Some due.slot
         → (w : Flat) × IsSweptAt m store w due.table due.row place × (w.number ≡ due.number) × (w.committed ≡ due.committed) }
 {}
 
 /// The cells show the rows that are committed now.
 pub fn committed_rows_are_shown()
-    ensures { (m : Machine) (store : Store) → HoldsChains m store → IsKept m → in_order m.opening ≡ true
-        → Shows store.tables store.layouts store.done (published m (commits m - m.before)) }
+    ensures { (parts : Parts) (m : Machine) (store : Store) → HoldsChains parts m store → IsKept m → in_order m.opening ≡ true
+        → Shows parts store.tables store.layouts store.done (published m (commits m - m.before)) }
 {}
 
 /// The slot of a row that a transaction sees holds what it sees of the key's chain, and has the row of its view. What became of
 /// the writers is what the store's transactions know. A key without a row has none in the view.
 pub fn a_reader_sees_its_view_in_the_cells()
-    ensures variation { (m : Machine) (all : Transactions) (store : Store) (xact : Open) (t row : ℕ)
-        → HoldsChains m store → Mirrors m all → IsUsedRow (store.tables t) row
-        → option_map (λ slot. variation_in m.base t ((store.tables t).slot slot)) (slot_seen all store (m.base + xact.number) xact.snap t row)
+    ensures variation { (parts : Parts) (m : Machine) (all : Transactions) (store : Store) (xact : Open) (t row : ℕ)
+        → HoldsChains parts m store → Mirrors m all → IsUsedRow (store.tables t) row
+        → option_map (λ slot. variation_in parts m.base t ((store.tables t).slot slot)) (slot_seen all store (m.base + xact.number) xact.snap t row)
         ≡ seen m xact (t, key_of (store.tables t) row) }
-    ensures row { (m : Machine) (all : Transactions) (store : Store) (session : ℕ) (xact : Open) (t row : ℕ)
-        → HoldsChains m store → IsKept m → Mirrors m all → open_of m session ≡ Some xact
+    ensures row { (parts : Parts) (m : Machine) (all : Transactions) (store : Store) (session : ℕ) (xact : Open) (t row : ℕ)
+        → HoldsChains parts m store → IsKept m → Mirrors m all → open_of m session ≡ Some xact
         → IsUsedRow (store.tables t) row
-        → row_left None (option_map (λ slot. write_of t ((store.tables t).slot slot)) (slot_seen all store (m.base + xact.number) xact.snap t row))
+        → row_left None (option_map (λ slot. write_of parts t ((store.tables t).slot slot)) (slot_seen all store (m.base + xact.number) xact.snap t row))
         ≡ row_at (t, key_of (store.tables t) row) (view m xact) }
-    ensures none { (m : Machine) (store : Store) (session : ℕ) (xact : Open) (key : Key) → HoldsChains m store
+    ensures none { (parts : Parts) (m : Machine) (store : Store) (session : ℕ) (xact : Open) (key : Key) → HoldsChains parts m store
         → IsKept m → open_of m session ≡ Some xact
         → ((row : ℕ) → IsUsedRow (store.tables key.0) row → key_of (store.tables key.0) row ≢ key.1)
         → row_at key (view m xact) ≡ None }
@@ -202,9 +203,9 @@ pub fn a_reader_sees_its_view_in_the_cells()
 /// A new store holds the chains of a new machine. Once a transaction has begun it still does; with its version linked it does so
 /// after the write, and with its commit after that, and then it shows the row.
 pub fn a_small_life()
-    ensures new { HoldsChains new_machine nothing }
-    ensures begun { HoldsChains begun nothing }
-    ensures written { HoldsChains written one_version }
-    ensures committed { HoldsChains committed one_row }
-    ensures shown { Shows one_row.tables one_row.layouts one_row.done (row_with body ∷ []) }
+    ensures new { (parts : Parts) → HoldsChains parts new_machine nothing }
+    ensures begun { (parts : Parts) → HoldsChains parts begun nothing }
+    ensures written { (parts : Parts) → HoldsChains parts written one_version }
+    ensures committed { (parts : Parts) → HoldsChains parts committed one_row }
+    ensures shown { (parts : Parts) → Shows parts one_row.tables one_row.layouts one_row.done (row_with body ∷ []) }
 {}
