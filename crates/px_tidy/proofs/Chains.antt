@@ -7,11 +7,9 @@ use Rattle.std.proofs.lemmas.List.{drop-map, length-append, length-map, length-t
 use Rattle.px_cells.specs.declared.slot.Slot.{Slot}
 use Rattle.px_cells.specs.declared.slot.SlotState.{SlotState}
 use Rattle.px_cells.specs.declared.slot.SlotState.TheVariants.{Free, Row, Deletion}
-use Rattle.px_machine_laws.specs.Seen.{row_left}
-use Rattle.px_model.specs.declared.row.Row.{Row as RowOf}
 use Rattle.px_shown.specs.Changes.{left_of}
-use Rattle.px_shown.specs.Shown.{Done, row_shown, write_in, write_of}
-use Rattle.px_shown.proofs.Firsts.{first_found, first_passed}
+use Rattle.px_shown.specs.Shown.{Done, slot_in, slot_shown}
+use Rattle.px_shown.proofs.Firsts.{first_found, first_passed, shown_of}
 use Rattle.px_shown.proofs.Keys.{seen}
 use Rattle.px_tidy.specs.Kept.{is_other, is_row, kept, place_kept}
 
@@ -25,64 +23,13 @@ behind done (suc count) (slot ∷ slots) = cond (done slot.xn) [] (behind done c
 abbrev pub left_at : Done → ℕ → List Slot → List Slot
 left_at done count slots = map seen (take count slots) ++ behind done count slots
 
--- ---- the version that stays
-
-pub kept_done : (done : Done) (slot : Slot) (slots : List Slot) → done slot.xn ≡ true → kept done (slot ∷ slots) ≡ cond (is_row slot.state) (seen slot ∷ []) []
-kept_done done slot slots is = ap (λ (b : Bool). cond b (cond (is_row slot.state) (seen slot ∷ []) []) (kept done slots)) is
-
-pub kept_passed : (done : Done) (slot : Slot) (slots : List Slot) → done slot.xn ≡ false → kept done (slot ∷ slots) ≡ kept done slots
-kept_passed done slot slots not_done = ap (λ (b : Bool). cond b (cond (is_row slot.state) (seen slot ∷ []) []) (kept done slots)) not_done
-
-one_again : (done : Done) (slot : Slot) (r : Bool) → done slot.xn ≡ true → is_row slot.state ≡ r → kept done (cond r (seen slot ∷ []) []) ≡ cond r (seen slot ∷ []) []
-one_again done slot true is row = kept_done done (seen slot) [] is ∙ ap (λ (b : Bool). cond b (seen slot ∷ []) []) row
-one_again done slot false is row = refl
-
--- of what stays the same stays
-pub kept_again : (done : Done) (slots : List Slot) → kept done (kept done slots) ≡ kept done slots
-kept_again done [] = refl
-kept_again done (slot ∷ slots) =
-    (elim (done slot.xn) as (λ b. done slot.xn ≡ b → kept done (cond b (cond (is_row slot.state) (seen slot ∷ []) []) (kept done slots)) ≡ cond b (cond (is_row slot.state) (seen slot ∷ []) []) (kept done slots)) [
-      | true ↦ λ e. one_again done slot (is_row slot.state) e refl
-      | false ↦ λ e. kept_again done slots
-    ]) refl
+-- ---- the first of them
 
 left_passed : (done : Done) (count : ℕ) (slot : Slot) (slots : List Slot) → done slot.xn ≡ false → left_at done (suc count) (slot ∷ slots) ≡ seen slot ∷ left_at done count slots
 left_passed done count slot slots not_done = ap (λ (b : Bool). seen slot ∷ (map seen (take count slots) ++ cond b [] (behind done count slots))) not_done
 
 left_done : (done : Done) (count : ℕ) (slot : Slot) (slots : List Slot) → done slot.xn ≡ true → left_at done (suc count) (slot ∷ slots) ≡ seen slot ∷ (map seen (take count slots) ++ [])
 left_done done count slot slots is = ap (λ (b : Bool). seen slot ∷ (map seen (take count slots) ++ cond b [] (behind done count slots))) is
-
--- it is the same at each time
-pub kept_left : (done : Done) (count : ℕ) (slots : List Slot) → kept done (left_at done count slots) ≡ kept done slots
-kept_left done zero slots = kept_again done slots
-kept_left done (suc count) [] = refl
-kept_left done (suc count) (slot ∷ slots) =
-    (elim (done slot.xn) as (λ b. done slot.xn ≡ b → kept done (left_at done (suc count) (slot ∷ slots)) ≡ kept done (slot ∷ slots)) [
-      | true ↦ λ e. kept_done done (seen slot) (map seen (take count slots) ++ cond (done slot.xn) [] (behind done count slots)) e ∙ sym (kept_done done slot slots e)
-      | false ↦ λ e. ap (kept done) (left_passed done count slot slots e)
-          ∙ kept_passed done (seen slot) (left_at done count slots) e ∙ kept_left done count slots ∙ sym (kept_passed done slot slots e)
-    ]) refl
-
--- ---- what is shown
-
-abbrev shown_of : (t : ℕ) → Option Slot → Option RowOf
-shown_of t found = row_left None (option_map (write_of t) found)
-
-row_alone : (t : ℕ) (done : Done) (slot : Slot) (s : SlotState) → slot.state ≡ s → done slot.xn ≡ true
-    → row_left None (Some (write_in s t slot)) ≡ row_shown t done (cond (is_row s) (seen slot ∷ []) [])
-row_alone t done slot Row is its_done =
-    sym (ap (shown_of t) (first_found done (seen slot) [] its_done) ∙ ap (λ (s : SlotState). row_left None (Some (write_in s t (seen slot)))) is)
-row_alone t done slot Deletion is its_done = refl
-row_alone t done slot Free is its_done = refl
-
--- the version that stays alone shows what the whole chain shows
-pub shown_kept : (t : ℕ) (done : Done) (slots : List Slot) → row_shown t done slots ≡ row_shown t done (kept done slots)
-shown_kept t done [] = refl
-shown_kept t done (slot ∷ slots) =
-    (elim (done slot.xn) as (λ b. done slot.xn ≡ b → row_shown t done (slot ∷ slots) ≡ row_shown t done (kept done (slot ∷ slots))) [
-      | true ↦ λ e. ap (shown_of t) (first_found done slot slots e) ∙ row_alone t done slot slot.state refl e ∙ sym (ap (row_shown t done) (kept_done done slot slots e))
-      | false ↦ λ e. ap (shown_of t) (first_passed done slot slots e) ∙ shown_kept t done slots ∙ sym (ap (row_shown t done) (kept_passed done slot slots e))
-    ]) refl
 
 -- ---- one version after the other
 
@@ -135,6 +82,60 @@ goes done (suc count) (slot ∷ slots) within other =
           ∙ ap (λ (l : List Slot). seen slot ∷ l) (goes done count slots (omega (arith, within))
           (sym (other_later (place_kept done slots) count) ∙ ap (λ (k : Option ℕ). is_other k (suc count)) (sym (place_passed done slot slots e)) ∙ other))
           ∙ sym (left_passed done count slot slots e)
+    ]) refl
+
+-- two lists whose slots differ in their links alone
+same_head : (x slot : Slot) (xs slots : List Slot) → map seen (x ∷ xs) ≡ seen slot ∷ slots → (x.xn ≡ slot.xn) × (x.state ≡ slot.state) × (map seen xs ≡ slots)
+same_head x slot xs slots alike =
+    let head : seen x ≡ seen slot = cc in
+    let tail : map seen xs ≡ slots = cc in
+    (ap (λ (s : Slot). s.xn) head, ap (λ (s : Slot). s.state) head, tail)
+
+none_seen : (xs : List Slot) → map seen xs ≡ [] → xs ≡ []
+none_seen [] none = refl
+none_seen (x ∷ xs) none = let no : ⊥ = cc in absurd no
+
+no_row : (s : SlotState) (slot : Slot) → is_row s ≡ false → slot_in s slot ≡ None
+no_row Row slot other = absurd (false≢true (sym other))
+no_row Free slot other = refl
+no_row Deletion slot other = refl
+
+-- what is shown, where the first is passed over, and where it is done
+shown_passed : (done : Done) (slot : Slot) (slots : List Slot) → done slot.xn ≡ false → slot_shown done (slot ∷ slots) ≡ slot_shown done slots
+shown_passed done slot slots not_done = ap shown_of (first_passed done slot slots not_done)
+
+shown_first : (done : Done) (slot : Slot) (slots : List Slot) → done slot.xn ≡ true → slot_shown done (slot ∷ slots) ≡ slot_in slot.state slot
+shown_first done slot slots is = ap shown_of (first_found done slot slots is)
+
+-- once a version goes, what is left of the chain shows the slot that was shown before
+pub goes_shown : (done : Done) (count : ℕ) (slots versions : List Slot) → map seen versions ≡ left_at done (suc count) slots → count < length slots
+    → is_other (place_kept done slots) count ≡ true → slot_shown done (left_of versions count 1) ≡ slot_shown done versions
+goes_shown done count [] versions alike within other = absurd (omega (arith, within))
+goes_shown done count (slot ∷ slots) [] alike within other = let no : ⊥ = cc in absurd no
+goes_shown done zero (slot ∷ slots) (x ∷ versions) alike within other =
+    (elim (done slot.xn) as (λ b. done slot.xn ≡ b → slot_shown done versions ≡ slot_shown done (x ∷ versions)) [
+      | true ↦ λ e.
+          let same = same_head x slot versions [] (alike ∙ left_done done 0 slot slots e) in
+          let row = first_goes (is_row slot.state) (ap (λ (k : Option ℕ). is_other k 0) (sym (place_done done slot slots e)) ∙ other) in
+          ap (slot_shown done) (none_seen versions same.2)
+          ∙ sym (shown_first done x versions (ap done same.0 ∙ e) ∙ no_row x.state x (ap is_row same.1 ∙ row))
+      | false ↦ λ e.
+          let same = same_head x slot versions (left_at done 0 slots) (alike ∙ left_passed done 0 slot slots e) in
+          sym (shown_passed done x versions (ap done same.0 ∙ e))
+    ]) refl
+goes_shown done (suc count) (slot ∷ slots) (x ∷ versions) alike within other =
+    (elim (done slot.xn) as (λ b. done slot.xn ≡ b → slot_shown done (x ∷ left_of versions count 1) ≡ slot_shown done (x ∷ versions)) [
+      | true ↦ λ e.
+          let same = same_head x slot versions (map seen (take (suc count) slots) ++ []) (alike ∙ left_done done (suc count) slot slots e) in
+          let is : done x.xn ≡ true = ap done same.0 ∙ e in
+          shown_first done x (left_of versions count 1) is ∙ sym (shown_first done x versions is)
+      | false ↦ λ e.
+          let same = same_head x slot versions (left_at done (suc count) slots) (alike ∙ left_passed done (suc count) slot slots e) in
+          let not_done : done x.xn ≡ false = ap done same.0 ∙ e in
+          shown_passed done x (left_of versions count 1) not_done
+          ∙ goes_shown done count slots versions same.2 (omega (arith, within))
+          (sym (other_later (place_kept done slots) count) ∙ ap (λ (k : Option ℕ). is_other k (suc count)) (sym (place_passed done slot slots e)) ∙ other)
+          ∙ sym (shown_passed done x versions not_done)
     ]) refl
 
 -- the one that stays is passed over

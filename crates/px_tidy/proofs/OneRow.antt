@@ -8,28 +8,21 @@ use Rattle.px_model.specs.declared.row.Row.{Row}
 use Rattle.px_history.specs.Store.{IsOneRow, Store, versions_of}
 use Rattle.px_history.specs.Steps.{AreSteps, MayUnlink, Step, after_steps, after_unlink}
 use Rattle.px_shown.specs.Changes.{left_of}
-use Rattle.px_shown.specs.Shown.{Done, Shows, row_shown}
+use Rattle.px_shown.specs.Parts.{Parts}
+use Rattle.px_shown.specs.Shown.{Done, Shows}
 use Rattle.px_shown.specs.Tables.{AreSound}
 use Rattle.px_shown.proofs.Changes.{unlink_changes, unlink_stays_sound}
 use Rattle.px_shown.proofs.Keys.{seen}
-use Rattle.px_shown.proofs.Showing.{shown_blind}
 use Rattle.px_shown.proofs.Unlinking.{unlink_shows}
 use Rattle.px_tidy.specs.Kept.{is_other, kept, oldest_first, place_kept}
 use Rattle.px_tidy.specs.Steps.{IsRow, IsRowSame, IsRowTidied, Tidies, tidying_row}
-use Rattle.px_tidy.proofs.Chains.{IsKept, goes, kept_cases, kept_left, left_at, left_long, left_whole, map_left, shown_kept, stays}
+use Rattle.px_tidy.proofs.Chains.{IsKept, goes, goes_shown, kept_cases, left_at, left_long, left_whole, map_left, stays}
 use Rattle.px_tidy.proofs.Unlinks.{alone_exact, some_used, unlink_away, used_some}
 
 abbrev pub unlink_at : (t row place : ℕ) → Step
 unlink_at t row place = Step.unlink t row place 1
 
 -- ---- one step
-
-shown_alike : (t : ℕ) (done : Done) (slots : List Slot) (others : List Slot) → map seen slots ≡ others → row_shown t done slots ≡ row_shown t done others
-shown_alike t done slots others alike = sym ((shown_blind done).alike t slots) ∙ ap (row_shown t done) alike
-
--- what is left at a time shows what stays
-shown_left : (t : ℕ) (done : Done) (count : ℕ) (slots : List Slot) → row_shown t done (left_at done count slots) ≡ row_shown t done (kept done slots)
-shown_left t done count slots = shown_kept t done (left_at done count slots) ∙ ap (row_shown t done) (kept_left done count slots)
 
 -- what a chain has before a version goes, and what is left of it then
 record IsNext (store : Store) (t row count : ℕ) (slots : List Slot) : Type 0 where
@@ -62,9 +55,7 @@ may_go short store t row count slots sound n =
           let empty : length (versions_of store t row) ≡ 0 = ap length none in omega (arith, within, chain, empty));
       some = omega arith;
       within = within;
-      same = shown_alike t store.done (left_of (versions_of store t row) count 1) (left_at store.done count slots) (left_then store t row count slots n)
-          ∙ shown_left t store.done count slots
-          ∙ sym (shown_alike t store.done (versions_of store t row) (left_at store.done (suc count) slots) n.before ∙ shown_left t store.done (suc count) slots);
+      same = goes_shown store.done count slots (versions_of store t row) n.before n.within n.other;
     }
 
 gone : (short : ℕ) (store : Store) (t row count : ℕ) (slots : List Slot) → AreSound short store.tables store.layouts → IsNext store t row count slots
@@ -78,10 +69,10 @@ gone short store t row count slots sound n =
 -- ---- all of them
 
 record Goes (short : ℕ) (store : Store) (steps : List Step) (t row : ℕ) (left : List Slot) : Type 0 where
-  pub follow : AreSteps short store steps
+  pub follow : (parts : Parts) → AreSteps parts short store steps
   pub sound : AreSound short (after_steps store steps).tables (after_steps store steps).layouts
-  pub shows : (rows : List Row) → Shows store.tables store.layouts store.done rows
-      → Shows (after_steps store steps).tables (after_steps store steps).layouts (after_steps store steps).done rows
+  pub shows : (parts : Parts) (rows : List Row) → Shows parts store.tables store.layouts store.done rows
+      → Shows parts (after_steps store steps).tables (after_steps store steps).layouts (after_steps store steps).done rows
   pub done : (after_steps store steps).done ≡ store.done
   pub here : map seen (versions_of (after_steps store steps) t row) ≡ left
   pub away : (n q : ℕ) → (n ≡ t → q ≡ row → ⊥) → versions_of (after_steps store steps) n q ≡ versions_of store n q
@@ -91,10 +82,10 @@ one_goes : (short : ℕ) (store : Store) (t row count : ℕ) (slots : List Slot)
 one_goes short store t row count slots steps left sound n g =
     let may = may_go short store t row count slots sound n in
     record {
-      follow = (may, g.follow);
+      follow = λ parts. (may, g.follow parts);
       sound = g.sound;
-      shows = λ rows shows. g.shows rows
-          (unlink_shows short store.tables store.layouts store.done rows t row count 1 sound may.used may.some may.within may.same shows);
+      shows = λ parts rows shows. g.shows parts rows
+          (unlink_shows parts short store.tables store.layouts store.done rows t row count 1 sound may.used may.some may.within may.same shows);
       done = g.done;
       here = g.here;
       away = λ m q away. g.away m q away ∙ unlink_away short store.tables store.layouts t row count 1 m q sound may.used may.some may.within away;
@@ -107,7 +98,7 @@ all_go : (short : ℕ) (store : Store) (t row : ℕ) (slots : List Slot) (count 
     → map seen (versions_of store t row) ≡ left_at store.done count slots
     → Goes short store (steps_at store.done t row slots count) t row (kept store.done slots)
 all_go short store t row slots zero sound within before =
-    record { follow = tt; sound = sound; shows = λ rows shows. shows; done = refl; here = before; away = λ n q away. refl }
+    record { follow = λ parts. tt; sound = sound; shows = λ parts rows shows. shows; done = refl; here = before; away = λ n q away. refl }
 all_go short store t row slots (suc count) sound within before =
     let rest = filter (is_other (place_kept store.done slots)) (oldest_first count) in
     (elim (is_other (place_kept store.done slots) count) as (λ b. is_other (place_kept store.done slots) count ≡ b

@@ -8,6 +8,7 @@ use Rattle.px_cells.specs.declared.slot.Slot.{Slot}
 use Rattle.px_chain.specs.Sound.{IsUsedRow}
 use Rattle.px_history.specs.Store.{IsTidied, Store, versions_of}
 use Rattle.px_history.specs.Steps.{AreSteps, IsStep, Step, after_step, after_steps}
+use Rattle.px_shown.specs.Parts.{Parts}
 use Rattle.px_shown.specs.Shown.{Done}
 use Rattle.px_shown.specs.Tables.{AreSound}
 use Rattle.px_tidy.specs.Kept.{kept, tidied_away}
@@ -18,15 +19,15 @@ use Rattle.px_tidy.proofs.Unlinks.{unused_none}
 
 -- ---- steps behind steps
 
-follow_both : (short : ℕ) (store : Store) (steps more : List Step) → AreSteps short store steps → AreSteps short (after_steps store steps) more
-    → AreSteps short store (steps ++ more)
-follow_both short store [] more follow then = then
-follow_both short store (step ∷ steps) more follow then = (follow.0, follow_both short (after_step store step) steps more follow.1 then)
+follow_both : (parts : Parts) (short : ℕ) (store : Store) (steps more : List Step) → AreSteps parts short store steps → AreSteps parts short (after_steps store steps) more
+    → AreSteps parts short store (steps ++ more)
+follow_both parts short store [] more follow then = then
+follow_both parts short store (step ∷ steps) more follow then = (follow.0, follow_both parts short (after_step store step) steps more follow.1 then)
 
-pub one_of_them : (short : ℕ) (store : Store) (before behind : List Step) (step : Step) → AreSteps short store (before ++ step ∷ behind)
-    → IsStep short (after_steps store before) step
-one_of_them short store [] behind step follow = follow.0
-one_of_them short store (first ∷ before) behind step follow = one_of_them short (after_step store first) before behind step follow.1
+pub one_of_them : (parts : Parts) (short : ℕ) (store : Store) (before behind : List Step) (step : Step) → AreSteps parts short store (before ++ step ∷ behind)
+    → IsStep parts short (after_steps store before) step
+one_of_them parts short store [] behind step follow = follow.0
+one_of_them parts short store (first ∷ before) behind step follow = one_of_them parts short (after_step store first) before behind step follow.1
 
 -- these rows, and those ones, and no others
 record AreBoth (A B C : ℕ → ℕ → Type 0) : Type 0 where
@@ -51,9 +52,9 @@ both_tidy : (short : ℕ) (store middle after : Store) (steps more : List Step) 
     → Tidies short middle more after B → Tidies short store (steps ++ more) after C
 both_tidy short store middle after steps more A B C are a b = record {
   lead = b.lead ∙ ap (λ (s : Store). after_steps s more) a.lead ∙ sym (fold-append after_step store steps more);
-  follow = follow_both short store steps more a.follow (subst (λ (s : Store). AreSteps short s more) a.lead b.follow);
+  follow = λ parts. follow_both parts short store steps more (a.follow parts) (subst (λ (s : Store). AreSteps parts short s more) a.lead (b.follow parts));
   sound = b.sound;
-  shows = λ rows shows. b.shows rows (a.shows rows shows);
+  shows = λ parts rows shows. b.shows parts rows (a.shows parts rows shows);
   done = b.done ∙ a.done;
   tidied = λ t row is. ⊎_elim
       (λ (one : A t row). first_tidied store middle after t row (a.tidied t row one) (b.others t row (λ two. are.apart t row one two)))
@@ -84,9 +85,9 @@ none_to_tidy : (short : ℕ) (store : Store) (IsOne : ℕ → ℕ → Type 0) �
     → Tidies short store [] store IsOne
 none_to_tidy short store IsOne sound none = record {
   lead = refl;
-  follow = tt;
+  follow = λ parts. tt;
   sound = sound;
-  shows = λ rows shows. shows;
+  shows = λ parts rows shows. shows;
   done = refl;
   tidied = λ t row is. absurd (none t row is);
   others = λ t row no. same_row short store store t row sound sound refl;

@@ -2,6 +2,7 @@
 use Rattle.std.specs.Prelude.{◌≡◌, ◌≢◌, ◌↔◌, ℕ, zero, suc, ◌≤◌, List, [], ◌++◌, map}
 use Rattle.px_chain.specs.Sound.{IsUsedRow}
 use Rattle.px_model.specs.declared.row.Row.{Row}
+use Rattle.px_shown.specs.Parts.{Parts}
 use Rattle.px_shown.specs.Shown.{Shows}
 use Rattle.px_shown.specs.Tables.{AreSound}
 use Rattle.px_history.specs.Steps.{AreSteps, Step, after_steps}
@@ -37,12 +38,12 @@ pub record IsRowSame (store after : Store) (t row : ℕ) : Type 0 where
   pub used : IsUsedRow (after.tables t) row ↔ IsUsedRow (store.tables t) row
 
 -- The steps lead from a store to another one, and each may follow. The cells stay sound and show the same rows, and the same
--- numbers are done. Each of these rows is tidied, and every other one is as it was.
+-- numbers are done. Each of these rows is tidied, and every other one is as it was. What lies in the data logs has no part in it.
 pub record Tidies (short : ℕ) (store : Store) (steps : List Step) (after : Store) (IsOne : (t row : ℕ) → Type 0) : Type 0 where
   pub lead : after ≡ after_steps store steps
-  pub follow : AreSteps short store steps
+  pub follow : (parts : Parts) → AreSteps parts short store steps
   pub sound : AreSound short after.tables after.layouts
-  pub shows : (rows : List Row) → Shows store.tables store.layouts store.done rows → Shows after.tables after.layouts after.done rows
+  pub shows : (parts : Parts) (rows : List Row) → Shows parts store.tables store.layouts store.done rows → Shows parts after.tables after.layouts after.done rows
   pub done : after.done ≡ store.done
   pub tidied : (t row : ℕ) → IsOne t row → IsRowTidied store after t row
   pub others : (t row : ℕ) → ¬ IsOne t row → IsRowSame store after t row

@@ -3,6 +3,7 @@ ghost use Rattle.px_chain.specs.Sound.{IsUsedRow};
 ghost use Rattle.px_history.specs.Steps.{AreSteps, IsStep, Step, after_steps};
 ghost use Rattle.px_history.specs.Store.{IsOneRow, IsTidied, Store, versions_of};
 ghost use Rattle.px_model.specs.declared.row.Row.{Row};
+ghost use Rattle.px_shown.specs.Parts.{Parts};
 ghost use Rattle.px_shown.specs.Shown.{Shows};
 ghost use Rattle.px_shown.specs.Tables.{AreSound};
 ghost use Rattle.px_tidy.specs.Rows.{HasNoRowPast, IsNextRow};
@@ -34,11 +35,11 @@ pub fn a_store_is_tidied()
         → IsTidied (after_steps store (tidying_tables store last)) }
 {}
 
-/// A store that was tidied shows the rows that it showed before.
+/// A store that was tidied shows the rows that it showed before, whatever lies in the data logs.
 pub fn tidying_shows_the_same()
-    ensures { (short : ℕ) (store : Store) (last : ℕ) (rows : List Row) → AreSound short store.tables store.layouts
-        → Shows store.tables store.layouts store.done rows
-        → let after = after_steps store (tidying_tables store last) in Shows after.tables after.layouts after.done rows }
+    ensures { (parts : Parts) (short : ℕ) (store : Store) (last : ℕ) (rows : List Row) → AreSound short store.tables store.layouts
+        → Shows parts store.tables store.layouts store.done rows
+        → let after = after_steps store (tidying_tables store last) in Shows parts after.tables after.layouts after.done rows }
 {}
 
 /// Rows that aren't used have no steps, so one may go from each used row to the next one, and end behind the last.
@@ -51,6 +52,6 @@ pub fn rows_between_have_no_steps()
 
 /// Of steps that may follow one after the other each may follow those before it.
 pub fn each_step_may_follow()
-    ensures { (short : ℕ) (store : Store) (before behind : List Step) (step : Step) → AreSteps short store (before ++ step ∷ behind)
-        → IsStep short (after_steps store before) step }
+    ensures { (parts : Parts) (short : ℕ) (store : Store) (before behind : List Step) (step : Step) → AreSteps parts short store (before ++ step ∷ behind)
+        → IsStep parts short (after_steps store before) step }
 {}
