@@ -6,9 +6,9 @@ ghost use Rattle.px_chain.specs.Cells.{cell_of};
 ghost use Rattle.px_chain.specs.Sound.{IsSound, IsUsedRow, Layout};
 ghost use Rattle.px_chain.specs.Table.{Table, laid};
 ghost use Rattle.px_change.specs.Grammar.{may_hold};
+ghost use Rattle.px_change.specs.declared.change.Change.{Change as CellChange};
 ghost use Rattle.px_history.specs.Base.{IsBase, done_before, ended_before};
 ghost use Rattle.px_told.specs.Writes.{rows_over};
-ghost use Rattle.px_change.specs.declared.change.Change.{Change as CellChange};
 ghost use Rattle.px_history.specs.Example.{long_body, second_changes, second_run, small_base, small_history, two_places};
 ghost use Rattle.px_history.specs.Fitting.{FitsFrame, IsStoredNumber, IsWritten};
 ghost use Rattle.px_history.specs.Steps.{AgreeOnSteps, History, IsStep, IsUnlink, LeavesOpen, Step, after_step, after_steps, layout_linked};
@@ -111,7 +111,7 @@ pub fn fronts_are_histories()
         → AreChangesOf short store steps changes → AreChangesOf short store (take count steps) (take count changes) }
 {}
 
-/// A history and its changes grow by a step that may follow.
+/// A history and its changes grow by a step that may follow. So do the changes that the log has for it.
 pub fn histories_grow()
     ensures none { (parts : Parts) (short : ℕ) (base : Store) → History parts short base [] base }
     ensures step { (parts : Parts) (short : ℕ) (base store : Store) (steps : List Step) (step : Step)

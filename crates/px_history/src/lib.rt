@@ -1,9 +1,9 @@
 //! What each front of a log of cell changes shows.
 //!
 //! A log of cells has a change for each version that is linked, each commit, each rollback, each unlink and each part of a long
-//! body that is moved. Read as steps from
-//! a base, which is a store whose transactions have all ended, any front of it leaves sound cells, and they show the rows after
-//! the writes of the transactions that commit in that front. Nothing here runs.
+//! body that is moved. Read as steps from a base, which is a store whose transactions have all ended, any front of it leaves sound
+//! cells, and they show the rows after the writes of the transactions that commit in that front. What lies in the data logs is a
+//! question that only writes and moves ask. Nothing here runs.
 //!
 //! - `laws`: what each history leaves, what each front of it shows, and which cells its changes have.
 //!
