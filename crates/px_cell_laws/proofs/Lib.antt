@@ -19,4 +19,5 @@ pub mod OneRow
 pub mod Placing
 pub mod Closing
 pub mod Passing
+pub mod Moved
 pub mod Small

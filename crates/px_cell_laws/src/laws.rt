@@ -21,7 +21,7 @@ ghost use Rattle.px_model.specs.declared.row.Row.{Row};
 ghost use Rattle.px_model.specs.declared.write.Write.{Write};
 ghost use Rattle.px_machine_laws.specs.Seen.{row_left};
 ghost use Rattle.px_shown.specs.Example.{row_with};
-ghost use Rattle.px_shown.specs.Parts.{Parts};
+ghost use Rattle.px_shown.specs.Parts.{AgreeInChains, Parts};
 ghost use Rattle.px_shown.specs.Shown.{Shows, write_of};
 ghost use Rattle.px_shown.specs.Tables.{AreSound};
 ghost use Rattle.px_tables.specs.Linking.{FitsSlot, version_of};
@@ -137,9 +137,19 @@ pub fn a_sweep_is_an_unlink()
         → sweep_count_of store w t row place ≤ 2 }
 {}
 
+/// A move of a part leaves the chains that the cells hold. Of what lies in the data logs only the references of versions in the
+/// chains are asked.
+pub fn a_move_keeps_the_chains()
+    ensures chains { (parts : Parts) (m : Machine) (store : Store) (t number log place : ℕ) → HoldsChains parts m store
+        → IsStep parts m.short store (Step.move t number log place)
+        → HoldsChains parts m (after_step store (Step.move t number log place)) }
+    ensures references { (parts others : Parts) (m : Machine) (store : Store)
+        → AgreeInChains parts others store.tables store.layouts → HoldsChains parts m store → HoldsChains others m store }
+{}
+
 /// Each unswept write names its row pointer and its slot: the chain of a row begins with the slots of the unswept writes of its
-/// key, the newest first. So it is at an opening, and so it stays with each call and each sweep, where a write is kept with the
-/// place at which its version is linked.
+/// key, the newest first. So it is at an opening, and so it stays with each call, each sweep and each move, where a write is kept
+/// with the place at which its version is linked.
 pub fn unswept_writes_name_their_slots()
     ensures opening { (base : ℕ) (store : Store) → AreWrittenAt (xacts.fresh base) store }
     ensures begin { (all : Transactions) (store : Store) (session frames : ℕ) → AreWrittenAt all store
@@ -154,6 +164,8 @@ pub fn unswept_writes_name_their_slots()
         → AreWrittenAt all (after_step store (Step.commit xn number)) }
     ensures rollback { (all : Transactions) (store : Store) (xn : ℕ) → AreWrittenAt all store
         → AreWrittenAt all (after_step store (Step.rollback xn)) }
+    ensures moved { (all : Transactions) (store : Store) (t number log place : ℕ) → AreWrittenAt all store
+        → AreWrittenAt all (after_step store (Step.move t number log place)) }
     ensures sweep { (parts : Parts) (m : Machine) (all : Transactions) (store : Store) (w : Flat) (t row place : ℕ)
         → Mirrors m all → HoldsChains parts m store → IsKept m → AreWrittenAt all store
         → IsSweptAt m store w t row place → 1 ≤ sweep_count_of store w t row place

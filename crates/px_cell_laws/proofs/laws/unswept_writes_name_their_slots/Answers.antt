@@ -1,4 +1,5 @@
 use Rattle.px_cell_laws.proofs.Closing.{commit_written, end_written, rollback_written}
+use Rattle.px_cell_laws.proofs.Moved.{move_stays_written}
 use Rattle.px_cell_laws.proofs.Noting.{begin_written, nothing_written}
 use Rattle.px_cell_laws.proofs.Passing.{nothing_swept_written, sweep_written}
 use Rattle.px_cell_laws.proofs.Placing.{write_written}
@@ -27,3 +28,6 @@ returns-clause-sweep c = sweep_written
 
 pub returns-clause-nothing : goal.returns-clause-nothing
 returns-clause-nothing c = nothing_swept_written
+
+pub returns-clause-moved : goal.returns-clause-moved
+returns-clause-moved c = move_stays_written
