@@ -176,8 +176,7 @@ pub fn unswept_writes_name_their_slots()
 {}
 
 /// What is due names the version that is swept next: its slot stands in the chain of its row pointer, and the place at which it
-/// is found there is the version's. Whose write it is, and whether that committed, is as the
-/// machine has it.
+/// is found there is the version's. Its number, and whether it committed, are those of the machine's write.
 pub fn what_is_due_is_found_in_its_row()
     ensures there { (parts : Parts) (m : Machine) (all : Transactions) (store : Store) (due : Due)
         → Mirrors m all → HoldsChains parts m store → AreWrittenAt all store → xacts.due all ≡ Some due
