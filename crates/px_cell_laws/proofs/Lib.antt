@@ -21,3 +21,4 @@ pub mod Closing
 pub mod Passing
 pub mod Moved
 pub mod Small
+pub mod Leaving

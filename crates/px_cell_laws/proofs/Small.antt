@@ -35,7 +35,7 @@ begun_kept = kept_call new_machine 0 Begin new_kept
 written_kept : IsKept written
 written_kept = kept_call begun 0 (Insert 2 key 7 body) begun_kept
 
-committed_kept : IsKept committed
+pub committed_kept : IsKept committed
 committed_kept = kept_call written 0 Commit written_kept
 
 pub new_holds : (parts : Parts) → HoldsChains parts new_machine nothing

@@ -33,7 +33,7 @@ ghost use Rattle.px_cell_laws.specs.Holding.{HoldsChains, variation_in};
 ghost use Rattle.px_cell_laws.specs.Locating.{AreWrittenAt, without_first, write_at};
 ghost use Rattle.px_cell_laws.specs.Reading.{slot_seen};
 ghost use Rattle.px_cell_laws.specs.Sweeping.{IsSweptAt, sweep_count_of, sweep_of};
-ghost use Rattle.px_cell_laws.specs.Worked.{begun, body, committed, new_machine, one_row, one_version, written};
+ghost use Rattle.px_cell_laws.specs.Worked.{begun, body, committed, deleted, deleted_row, new_machine, no_row, one_row, one_version, swept_once, swept_twice, written};
 ghost use Rattle.px_cell_laws.specs.Writing.{IsWriteBy, is_end};
 
 /// The versions of a row are the machine's chain of its key, the newest first; a key without a row has no chain.
@@ -176,8 +176,7 @@ pub fn unswept_writes_name_their_slots()
 {}
 
 /// What is due names the version that is swept next: its slot stands in the chain of its row pointer, and the place at which it
-/// is found there is the version's. Whose write it is, and whether that committed, is as the
-/// machine has it.
+/// is found there is the version's. Its number, and whether it committed, are those of the machine's write.
 pub fn what_is_due_is_found_in_its_row()
     ensures there { (parts : Parts) (m : Machine) (all : Transactions) (store : Store) (due : Due)
         → Mirrors m all → HoldsChains parts m store → AreWrittenAt all store → xacts.due all ≡ Some due
@@ -213,11 +212,16 @@ pub fn a_reader_sees_its_view_in_the_cells()
 {}
 
 /// A new store holds the chains of a new machine. Once a transaction has begun it still does; with its version linked it does so
-/// after the write, and with its commit after that, and then it shows the row.
+/// after the write, and with its commit after that, and then it shows the row. Once another transaction has deleted the row, the
+/// sweep of the first write takes nothing, and with that of the deletion both versions go.
 pub fn a_small_life()
     ensures new { (parts : Parts) → HoldsChains parts new_machine nothing }
     ensures begun { (parts : Parts) → HoldsChains parts begun nothing }
     ensures written { (parts : Parts) → HoldsChains parts written one_version }
     ensures committed { (parts : Parts) → HoldsChains parts committed one_row }
     ensures shown { (parts : Parts) → Shows parts one_row.tables one_row.layouts one_row.done (row_with body ∷ []) }
+    ensures deleted { (parts : Parts) → HoldsChains parts deleted deleted_row }
+    ensures swept_once { (parts : Parts) → HoldsChains parts swept_once deleted_row }
+    ensures swept_twice { (parts : Parts) → HoldsChains parts swept_twice no_row }
+    ensures gone { (parts : Parts) → Shows parts no_row.tables no_row.layouts no_row.done [] }
 {}

@@ -1,3 +1,4 @@
+use Rattle.px_cell_laws.proofs.Leaving.{deleted_holds, nothing_shown, swept_once_holds, swept_twice_holds}
 use Rattle.px_cell_laws.proofs.Small.{begun_holds, committed_holds, committed_shows, new_holds, written_holds}
 use Rattle.px_cell_laws.proofs.laws.a_small_life.Goals as goal
 
@@ -15,3 +16,15 @@ returns-clause-committed c = committed_holds
 
 pub returns-clause-shown : goal.returns-clause-shown
 returns-clause-shown c = committed_shows
+
+pub returns-clause-deleted : goal.returns-clause-deleted
+returns-clause-deleted c = deleted_holds
+
+pub returns-clause-swept_once : goal.returns-clause-swept_once
+returns-clause-swept_once c = swept_once_holds
+
+pub returns-clause-swept_twice : goal.returns-clause-swept_twice
+returns-clause-swept_twice c = swept_twice_holds
+
+pub returns-clause-gone : goal.returns-clause-gone
+returns-clause-gone c = nothing_shown
