@@ -21,6 +21,7 @@ use Rattle.px_model_laws.proofs.Laws.{chains_are_cut}
 use Rattle.px_shown.proofs.Keys.{key_made, same_key-refl}
 use Rattle.px_tables.specs.Keys.{HasNoRow}
 use Rattle.px_tables.specs.Linking.{IsFull}
+use Rattle.px_shown.specs.Parts.{Parts}
 use Rattle.px_cell_laws.specs.Holding.{HoldsChains}
 use Rattle.px_cell_laws.proofs.Chained.{chain_of_row, no_row_no_chain}
 use Rattle.px_counted.specs.Counts.{slots_in_chains, used_rows}
@@ -55,15 +56,15 @@ no_writes_of_another m t key other =
     other (ap (λ (k : Key). k.0) (same_key-is key (key_written w) of) ∙ eqb-true (key_written w).0 t here)))
 
 -- as many as the row has slots
-slots_of_a_row : (m : Machine) (store : Store) (t row : ℕ) → HoldsChains m store → in_order m.opening ≡ true → IsUsedRow (store.tables t) row
+slots_of_a_row : (parts : Parts) (m : Machine) (store : Store) (t row : ℕ) → HoldsChains parts m store → in_order m.opening ≡ true → IsUsedRow (store.tables t) row
     → length (filter (is_of (key_in store t row)) (writes_in m t)) ≡ length ((store.layouts t).chain row)
-slots_of_a_row m store t row h opening used =
+slots_of_a_row parts m store t row h opening used =
     let key = key_in store t row in
     ap length (writes_of_its_key m t (key_of (store.tables t) row))
     ∙ sym (ap length (chains_are_cut m key opening))
     ∙ length-map (chain m key) (λ (v : Variation). v.write)
     ∙ sym (length-reverse (chain m key))
-    ∙ ap length (chain_of_row m store t row h used)
+    ∙ ap length (chain_of_row parts m store t row h used)
     ∙ length-map (versions_of store t row) _
     ∙ length-map ((store.layouts t).chain row) (store.tables t).slot
 
@@ -76,8 +77,8 @@ counted_by_row : (store : Store) (t : ℕ) (key : Key) → count_by (λ k. same_
 counted_by_row store t key =
     sum_mapped _ (key_in store t) (used_rows (store.tables t)) ∙ sym (length-filter (has_key store t key) (used_rows (store.tables t)))
 
-one_row : (m : Machine) (store : Store) (t : ℕ) (key : Key) → HoldsChains m store → count_by (λ k. same_key k key) (keys_in store t) ≤ 1
-one_row m store t key h =
+one_row : (parts : Parts) (m : Machine) (store : Store) (t : ℕ) (key : Key) → HoldsChains parts m store → count_by (λ k. same_key k key) (keys_in store t) ≤ 1
+one_row parts m store t key h =
     let rows = used_rows (store.tables t) in
     let with_key = filter (has_key store t key) rows in
     let used : (row : ℕ) → Contains with_key row → IsUsedRow (store.tables t) row =
@@ -88,9 +89,9 @@ one_row m store t key h =
     (λ row other here there. (h.sound t).keys row other (used row here) (used other there) (ap (λ (k : Key). k.1) (is row here ∙ sym (is other there)))) in
     omega (arith, few, counted_by_row store t key)
 
-no_row : (m : Machine) (store : Store) (t : ℕ) (bytes : List ℕ) → HoldsChains m store → in_order m.opening ≡ true
+no_row : (parts : Parts) (m : Machine) (store : Store) (t : ℕ) (bytes : List ℕ) → HoldsChains parts m store → in_order m.opening ≡ true
     → count_by (λ k. same_key k (t, bytes)) (keys_in store t) ≡ 0 → filter (is_of (t, bytes)) (writes_in m t) ≡ []
-no_row m store t bytes h opening none =
+no_row parts m store t bytes h opening none =
     let key : Key = (t, bytes) in
     let rows = used_rows (store.tables t) in
     let away : (row : ℕ) → IsUsedRow (store.tables t) row → key_of (store.tables t) row ≢ bytes = λ row used same.
@@ -98,58 +99,58 @@ no_row m store t bytes h opening none =
     let there = is_kept (has_key store t key) row rows (used_is_among (store.tables t) row used) has in
     let within = there.1 in
     omega (arith, within, none, counted_by_row store t key) in
-    writes_of_its_key m t bytes ∙ sym (chains_are_cut m key opening) ∙ ap (map (λ (v : Variation). v.write)) (no_row_no_chain m store key h away)
+    writes_of_its_key m t bytes ∙ sym (chains_are_cut m key opening) ∙ ap (map (λ (v : Variation). v.write)) (no_row_no_chain parts m store key h away)
 
-are_keys : (m : Machine) (store : Store) (t : ℕ) → HoldsChains m store → in_order m.opening ≡ true → AreKeysOfAll (keys_in store t) (writes_in m t)
-are_keys m store t h opening = record {
-  once = λ key. one_row m store t key h;
+are_keys : (parts : Parts) (m : Machine) (store : Store) (t : ℕ) → HoldsChains parts m store → in_order m.opening ≡ true → AreKeysOfAll (keys_in store t) (writes_in m t)
+are_keys parts m store t h opening = record {
+  once = λ key. one_row parts m store t key h;
   all = λ key none. ⊎_elim
       (λ (same : key.0 ≡ t).
       let made : key ≡ (t, key.1) = key_made key t key.1 same refl in
       subst (λ (k : Key). filter (is_of k) (writes_in m t) ≡ []) (sym made)
-      (no_row m store t key.1 h opening (subst (λ (k : Key). count_by (λ q. same_key q k) (keys_in store t) ≡ 0) made none)))
+      (no_row parts m store t key.1 h opening (subst (λ (k : Key). count_by (λ q. same_key q k) (keys_in store t) ≡ 0) made none)))
       (λ (other : key.0 ≢ t). no_writes_of_another m t key other)
       (cases_eq key.0 t);
 }
 
 -- ---- the variations
 
-pub in_chains : (m : Machine) (store : Store) (t : ℕ) → HoldsChains m store → in_order m.opening ≡ true
+pub in_chains : (parts : Parts) (m : Machine) (store : Store) (t : ℕ) → HoldsChains parts m store → in_order m.opening ≡ true
     → variations_of_table m t ≡ slots_in_chains (store.tables t) (store.layouts t)
 unfolding variations_of_table
-in_chains m store t h opening =
+in_chains parts m store t h opening =
     let rows = used_rows (store.tables t) in
     let ones : Key → ℕ = λ key. sum_by (λ (w : Write). 1) (filter (is_of key) (writes_in m t)) in
     sym (length-filter (in_table t) (all_variations m))
     ∙ sym (sum_of_ones (writes_in m t))
-    ∙ sum-by_keys (λ (w : Write). 1) (keys_in store t) (writes_in m t) (are_keys m store t h opening)
+    ∙ sum-by_keys (λ (w : Write). 1) (keys_in store t) (writes_in m t) (are_keys parts m store t h opening)
     ∙ sum_mapped ones (key_in store t) rows
     ∙ sum_alike (λ row. ones (key_in store t row)) (λ row. length ((store.layouts t).chain row)) rows
     (λ row there. sum_of_ones (filter (is_of (key_in store t row)) (writes_in m t))
-    ∙ slots_of_a_row m store t row h opening (among_is_used (store.tables t) row there))
+    ∙ slots_of_a_row parts m store t row h opening (among_is_used (store.tables t) row there))
 
-pub used_less_free : (m : Machine) (store : Store) (t : ℕ) → HoldsChains m store → in_order m.opening ≡ true
+pub used_less_free : (parts : Parts) (m : Machine) (store : Store) (t : ℕ) → HoldsChains parts m store → in_order m.opening ≡ true
     → variations_of_table m t ≡ (store.tables t).header.slots - length (store.layouts t).free_slots
-used_less_free m store t h opening =
+used_less_free parts m store t h opening =
     let all = slots_counted m.short (store.tables t) (store.layouts t) (h.sound t) in
-    let here = in_chains m store t h opening in
+    let here = in_chains parts m store t h opening in
     omega (arith, all, here)
 
-pub full_of_variations : (m : Machine) (store : Store) (t : ℕ) → HoldsChains m store → in_order m.opening ≡ true → AreFull (slots_of (store.tables t).header)
+pub full_of_variations : (parts : Parts) (m : Machine) (store : Store) (t : ℕ) → HoldsChains parts m store → in_order m.opening ≡ true → AreFull (slots_of (store.tables t).header)
     → variations_of_table m t ≡ MOST_VARIATIONS
-full_of_variations m store t h opening full =
-    in_chains m store t h opening ∙ full_in_chains m.short (store.tables t) (store.layouts t) (h.sound t) full
+full_of_variations parts m store t h opening full =
+    in_chains parts m store t h opening ∙ full_in_chains m.short (store.tables t) (store.layouts t) (h.sound t) full
 
-pub variations_fill : (m : Machine) (store : Store) (t : ℕ) → HoldsChains m store → in_order m.opening ≡ true → (store.tables t).header.slots < 2 ^ 32
+pub variations_fill : (parts : Parts) (m : Machine) (store : Store) (t : ℕ) → HoldsChains parts m store → in_order m.opening ≡ true → (store.tables t).header.slots < 2 ^ 32
     → variations_of_table m t ≡ MOST_VARIATIONS → AreFull (slots_of (store.tables t).header)
-variations_fill m store t h opening fits most =
-    chains_fill m.short (store.tables t) (store.layouts t) (h.sound t) fits (sym (in_chains m store t h opening) ∙ most)
+variations_fill parts m store t h opening fits most =
+    chains_fill m.short (store.tables t) (store.layouts t) (h.sound t) fits (sym (in_chains parts m store t h opening) ∙ most)
 
 -- no place is left for a key of the table
-pub full_for_a_key : (m : Machine) (store : Store) (t : ℕ) (key : List ℕ) → HoldsChains m store → in_order m.opening ≡ true
+pub full_for_a_key : (parts : Parts) (m : Machine) (store : Store) (t : ℕ) (key : List ℕ) → HoldsChains parts m store → in_order m.opening ≡ true
     → (store.tables t).header.slots < 2 ^ 32 → IsFull (store.tables t) key → variations_of_table m t ≡ MOST_VARIATIONS
-full_for_a_key m store t key h opening fits full =
-    full_of_variations m store t h opening (⊎_elim
+full_for_a_key parts m store t key h opening fits full =
+    full_of_variations parts m store t h opening (⊎_elim
     (λ (slots : AreFull (slots_of (store.tables t).header)). slots)
     (λ (rows : AreFull (rows_of (store.tables t).header) × HasNoRow (store.tables t) key).
     slots_are_first m.short (store.tables t) (store.layouts t) (h.sound t) fits rows.0)

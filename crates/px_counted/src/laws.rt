@@ -7,6 +7,7 @@ ghost use Rattle.px_model.specs.Chains.{variations_of_table};
 ghost use Rattle.px_model.specs.Machine.{Machine};
 ghost use Rattle.px_model.specs.Rows.{in_order};
 ghost use Rattle.px_model.specs.declared.limits.TheConstants.{MOST_VARIATIONS};
+ghost use Rattle.px_shown.specs.Parts.{Parts};
 ghost use Rattle.px_tables.specs.Linking.{IsFull};
 ghost use Rattle.px_cell_laws.specs.Holding.{HoldsChains};
 ghost use Rattle.px_counted.specs.Counts.{slots_in_chains, used_rows};
@@ -36,14 +37,14 @@ pub fn row_pointers_last_as_long_as_slots()
 /// A table's variations are the slots in its chains, whose numbers are those used less those on the free list. So the table is full
 /// of variations just where its header says that no slot is left, which is where no place is left for a key of it, new or not.
 pub fn variations_are_the_slots_in_chains()
-    ensures in_chains { (m : Machine) (store : Store) (t : ℕ) → HoldsChains m store → in_order m.opening ≡ true
+    ensures in_chains { (parts : Parts) (m : Machine) (store : Store) (t : ℕ) → HoldsChains parts m store → in_order m.opening ≡ true
         → variations_of_table m t ≡ slots_in_chains (store.tables t) (store.layouts t) }
-    ensures counted { (m : Machine) (store : Store) (t : ℕ) → HoldsChains m store → in_order m.opening ≡ true
+    ensures counted { (parts : Parts) (m : Machine) (store : Store) (t : ℕ) → HoldsChains parts m store → in_order m.opening ≡ true
         → variations_of_table m t ≡ (store.tables t).header.slots - length (store.layouts t).free_slots }
-    ensures full { (m : Machine) (store : Store) (t : ℕ) → HoldsChains m store → in_order m.opening ≡ true
+    ensures full { (parts : Parts) (m : Machine) (store : Store) (t : ℕ) → HoldsChains parts m store → in_order m.opening ≡ true
         → (store.tables t).header.slots < 2 ^ 32
         → (AreFull (slots_of (store.tables t).header) ↔ (variations_of_table m t ≡ MOST_VARIATIONS)) }
-    ensures no_place { (m : Machine) (store : Store) (t : ℕ) (key : List ℕ) → HoldsChains m store → in_order m.opening ≡ true
+    ensures no_place { (parts : Parts) (m : Machine) (store : Store) (t : ℕ) (key : List ℕ) → HoldsChains parts m store → in_order m.opening ≡ true
         → (store.tables t).header.slots < 2 ^ 32
         → (IsFull (store.tables t) key ↔ (variations_of_table m t ≡ MOST_VARIATIONS)) }
 {}

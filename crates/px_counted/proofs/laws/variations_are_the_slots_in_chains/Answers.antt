@@ -9,10 +9,10 @@ pub returns-clause-counted : goal.returns-clause-counted
 returns-clause-counted c = used_less_free
 
 pub returns-clause-full : goal.returns-clause-full
-returns-clause-full c = λ m store t h opening fits. (full_of_variations m store t h opening, variations_fill m store t h opening fits)
+returns-clause-full c = λ parts m store t h opening fits. (full_of_variations parts m store t h opening, variations_fill parts m store t h opening fits)
 
 pub returns-clause-no_place : goal.returns-clause-no_place
-returns-clause-no_place c = λ m store t key h opening fits. (
-  full_for_a_key m store t key h opening fits,
-  λ most. inl (variations_fill m store t h opening fits most),
+returns-clause-no_place c = λ parts m store t key h opening fits. (
+  full_for_a_key parts m store t key h opening fits,
+  λ most. inl (variations_fill parts m store t h opening fits most),
 )
