@@ -1,7 +1,7 @@
 -- What a call answers, from what its parts did.
 use Rattle.std.proofs.Common.{◌≡◌, ◌≢◌, ◌⊎◌, ℕ, ◌+◌, ◌^◌, ◌<◌, ◌≤◌, true, List, [], ◌∷◌, ◌++◌, Some, Result, Ok, Err, IfErr, refl, sym, ap, subst, ◌∙◌, inl, inr, arith}
 use Rattle.std.specs.Result.{IsErrAnd}
-use Rattle.px_site.specs.Cause.{Counts, NoneFell, Rose}
+use Rattle.px_site.specs.Cause.{Counts, Rose}
 use Rattle.px_site.specs.State.{State, EachMoment, OnFile}
 use Rattle.px_model.specs.Machine.{Machine, commits}
 use Rattle.px_calls.specs.declared.call.Call.{Call}
@@ -11,15 +11,15 @@ use Rattle.px_calls.specs.Steps.{reply_of, state_after}
 use Rattle.px_machine_laws.specs.Writers.{writer_of}
 use Rattle.px_told.specs.declared.change.Change.{Change}
 use Rattle.px_told.specs.declared.change.Change.TheVariants.{Commit as CommitChange}
-use Rattle.px_xlog.specs.Log.{Log, HasFirst, IsLogOf, full_at, with_frame}
 use Rattle.px_told.specs.Changes.{is_end}
+use Rattle.px_xlog.specs.Log.{Log, HasFirst, IsLogOf, full_at, with_frame}
 use Rattle.px_xlog.specs.Payload.{may_hold}
 use Rattle.px_xlog.specs.Contents.{the_log}
 use Rattle.px_logged.specs.Fitting.{Fits, tag_of}
 use Rattle.px_logged.specs.Logged.{logged}
 use Rattle.px_standing.specs.Stored.{Stored, ReadsImages}
 use Rattle.px_standing.proofs.Calls.{stored_still, appending_stands, stored_appended, both_moments, commit_stands, stored_committed}
-use Rattle.px_core.specs.Appending.{Appends, AppendFails, Flushes, FlushFails, HasAppendCause, LeavesFronts}
+use Rattle.px_core.specs.Appending.{Appends, AppendFails, Flushes, HasAppendCause, LeavesFronts}
 use Rattle.px_core.specs.Core.{Kept, AsBefore, Breaks, Leaves, HasCallCause, UnlessEnd}
 use Rattle.px_core.specs.Serving.{Answers, Refuses, StandsWithin}
 use Rattle.px_core.proofs.Writing.{added_may_stand, commit_adds_one, fits_one}

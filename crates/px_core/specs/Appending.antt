@@ -3,16 +3,16 @@ use Rattle.std.specs.Prelude.{◌≡◌, ◌≢◌, ℕ, true, List, [], ◌∷�
 use Rattle.px_site.specs.declared.error.Fault.TheVariants.{Sync, Tell}
 use Rattle.px_site.specs.State.{State, EachMoment, OnFile}
 use Rattle.px_site.specs.Cause.{Counts, HasCause, IsOwn, Rose}
+use Rattle.px_site.specs.declared.error.SiteError.{SiteError}
 use Rattle.px_model.specs.declared.write.Write.{Write}
 use Rattle.px_model.specs.Machine.{Machine}
 use Rattle.px_machine_laws.specs.Writers.{writer_of, last_write_of}
 use Rattle.px_told.specs.declared.change.Change.{Change}
 use Rattle.px_told.specs.declared.change.Change.TheVariants.{Put}
-use Rattle.px_xlog.specs.Log.{Log, HasFirst, IsLogOf, full_at, with_frame}
 use Rattle.px_told.specs.Changes.{is_end}
+use Rattle.px_xlog.specs.Log.{Log, HasFirst, IsLogOf, full_at, with_frame}
 use Rattle.px_xlog.specs.Payload.{may_hold}
 use Rattle.px_xlog.specs.Contents.{the_log}
-use Rattle.px_site.specs.declared.error.SiteError.{SiteError}
 use Rattle.px_core.specs.Core.{Kept, Breaks, Leaves}
 use Rattle.px_core.specs.declared.error.CoreError.{CoreError}
 use Rattle.px_core.specs.declared.error.CoreError.TheVariants.{OutOfMemory, Fault as FaultOf, LogFull, Broken}

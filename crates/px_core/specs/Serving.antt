@@ -3,11 +3,11 @@ use Rattle.std.specs.Prelude.{◌≡◌, ◌≢◌, ℕ, List, [], ◌++◌, Non
 use Rattle.px_site.specs.State.{State, EachMoment}
 use Rattle.px_site.specs.Cause.{Counts}
 use Rattle.px_model.specs.Machine.{commits}
-use Rattle.px_restart.specs.declared.restart.Restart.{Restart}
 use Rattle.px_calls.specs.declared.call.Call.{Call}
 use Rattle.px_calls.specs.declared.reply.Reply.{Reply}
 use Rattle.px_calls.specs.Steps.{reply_of, state_after}
 use Rattle.px_told.specs.declared.change.Change.{Change}
+use Rattle.px_restart.specs.declared.restart.Restart.{Restart}
 use Rattle.px_xlog.specs.Log.{full_at}
 use Rattle.px_logged.specs.Logged.{logged}
 use Rattle.px_standing.specs.Stored.{Stored}

@@ -1,11 +1,11 @@
 -- Changes that may stand in a log: how many commits they have, and which numbers.
-use Rattle.std.proofs.Common.{◌≡◌, ℕ, ◌+◌, ◌-◌, ◌^◌, ◌<◌, ◌≤◌, max, leb, ltb, true, List, [], ◌∷◌, length, arith}
+use Rattle.std.proofs.Common.{◌≡◌, ℕ, ◌+◌, ◌^◌, ◌<◌, ◌≤◌, max, leb, ltb, true, List, [], ◌∷◌, length, arith}
 use Rattle.std.proofs.lemmas.Bool.{and_parts, leb-true, ltb-true}
 use Rattle.px_told.specs.declared.change.Change.{Change}
 use Rattle.px_told.specs.declared.change.Change.TheVariants.{Put, Commit, Rollback}
-use Rattle.px_xlog.specs.Payload.{is_stored, is_write, is_change, is_within, may_hold, may_hold_all}
 use Rattle.px_told.specs.Commits.{last_commit, commits_in}
 use Rattle.px_told.specs.Changes.{stored_number, greatest_stored}
+use Rattle.px_xlog.specs.Payload.{is_stored, is_write, is_change, is_within, may_hold, may_hold_all}
 
 first_holds : (tables number : ℕ) (change : Change) (changes : List Change) → may_hold_all tables number (change ∷ changes) ≡ true
     → (is_change change ≡ true) × (is_within tables number change ≡ true) × (may_hold_all tables (number + 1) changes ≡ true)

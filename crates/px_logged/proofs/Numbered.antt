@@ -1,16 +1,14 @@
 -- What a call adds to the log has its Commits numbered on.
-use Rattle.std.proofs.Common.{◌≡◌, ℕ, ◌+◌, ◌≤◌, ◌==◌, Bool, true, false, cond, List, [], ◌∷◌, ◌++◌, length, take, drop, Option, Some, None, refl, sym, ap, subst, ◌∙◌, arith}
+use Rattle.std.proofs.Common.{ℕ, ◌+◌, ◌==◌, Bool, true, false, cond, List, [], ◌∷◌, ◌++◌, length, Option, Some, None, refl, subst}
 use Rattle.px_model.specs.declared.machine.Open.{Open}
 use Rattle.px_model.specs.declared.write.Write.{Write}
-use Rattle.px_model.specs.Rows.{after}
 use Rattle.px_model.specs.Machine.{Machine, commits}
 use Rattle.px_calls.specs.declared.call.Call.{Call}
 use Rattle.px_calls.specs.declared.call.Call.TheVariants.{Insert, Update, Delete, Commit as CommitCall, Rollback as RollbackCall}
 use Rattle.px_calls.specs.Steps.{open_of, is_refusal, reply_of}
 use Rattle.px_told.specs.declared.change.Change.{Change}
-use Rattle.px_told.specs.declared.change.Change.TheVariants.{Put, Commit, Rollback}
-use Rattle.px_told.specs.Commits.{CountsFrom, last_commit, commits_in}
-use Rattle.px_told.specs.Writes.{committed_after, rows_in}
+use Rattle.px_told.specs.declared.change.Change.TheVariants.{Commit, Rollback}
+use Rattle.px_told.specs.Commits.{CountsFrom, commits_in}
 use Rattle.px_logged.specs.Logged.{put_of, end_of, logged_when_done, logged}
 use Rattle.px_logged.specs.Recounting.{Recounts}
 use Rattle.px_told.proofs.Commits.{counts_on}

@@ -1,5 +1,5 @@
 -- A log that may hold what a machine's calls add to it.
-use Rattle.std.specs.Prelude.{◌≡◌, ℕ, ◌+◌, ◌^◌, ◌<◌, ◌≤◌, Some}
+use Rattle.std.specs.Prelude.{◌≡◌, ℕ, ◌+◌, ◌<◌, ◌≤◌, Some}
 use Rattle.px_model.specs.declared.limits.TheConstants.{LONGEST_KEY, STORED_NUMBERS_END}
 use Rattle.px_model.specs.declared.machine.Open.{Open}
 use Rattle.px_model.specs.Machine.{Machine, commits}

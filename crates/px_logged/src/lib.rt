@@ -5,8 +5,7 @@
 //! published stays.
 //!
 //! The definitions: `specs/Logged` what a call adds; `specs/Recounting` when a log tells what a machine did;
-//! `specs/Fitting` when it may hold what the machine's calls add; `specs/Fronts` when a front of it has all;
-//! `specs/Growing` what calls leave as it was. `proofs/Adding` has what each call adds as an equation.
+//! `specs/Fitting` when it may hold what the machine's calls add; `specs/Growing` what calls leave as it was. `proofs/Adding` has what each call adds as an equation.
 #![tactic(auto)]
 
 mod laws;

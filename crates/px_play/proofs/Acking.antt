@@ -3,7 +3,6 @@ use Rattle.std.proofs.Common.{◌≡◌, ◌⊎◌, ℕ, zero, suc, ◌+◌, ◌
 use Rattle.std.proofs.lemmas.List.{append-nil, drop_at, take_all}
 use Rattle.px_site.specs.State.{State, Moment, history, EachMoment, spoke, telling, told}
 use Rattle.px_site.proofs.Moments.{weaker_moments, same_moment}
-use Rattle.px_restart.specs.declared.restart.Restart.{Restart}
 use Rattle.px_model.specs.declared.row.Row.{Row}
 use Rattle.px_model.specs.Machine.{Machine, commits, published}
 use Rattle.px_calls.specs.declared.call.Call.{Call}
@@ -15,14 +14,14 @@ use Rattle.px_calls.specs.Histories.{state_after_all}
 use Rattle.px_calls.specs.Steps.{reply_of, state_after}
 use Rattle.px_calls.specs.Texts.{reply_text}
 use Rattle.px_told.specs.declared.change.Change.{Change}
-use Rattle.px_standing.specs.Standing.{Files, StandsFor}
-use Rattle.px_standing.specs.Images.{IsPlainImage}
+use Rattle.px_script.specs.Lines.{open_line}
+use Rattle.px_restart.specs.declared.restart.Restart.{Restart}
 use Rattle.px_xlog.specs.Log.{Log}
 use Rattle.px_logged.proofs.Grown.{opening_stays, commits_rise, published_stays}
+use Rattle.px_standing.specs.Standing.{Files, StandsFor}
+use Rattle.px_standing.specs.Images.{IsPlainImage, acked, HasCommitted, HasBetween, StandsBetween}
 use Rattle.px_standing.specs.Stored.{Stored}
-use Rattle.px_standing.specs.Images.{acked, HasCommitted, HasBetween, StandsBetween}
 use Rattle.px_play.specs.Acknowledged.{acknowledged, HoldsAcknowledged, KeepsAcknowledged}
-use Rattle.px_script.specs.Lines.{open_line}
 use Rattle.px_play.specs.Turns.{Acknowledges, TellsReply}
 use Rattle.px_play.proofs.Parts.{open_behind}
 use Rattle.px_play.proofs.Replies.{quiet_acknowledged, reply_quiet, committed_acknowledged, committed_front, reply_whole}

@@ -7,7 +7,6 @@ use Rattle.px_site.specs.State.{State, Moment, EachMoment, spoke}
 use Rattle.px_site.specs.Cause.{Counts, NoneFell, Rose}
 use Rattle.px_site.proofs.Moments.{then_moments}
 use Rattle.px_site.specs.declared.error.SiteError.TheVariants.{OutOfMemory as SiteShort, Fault as SiteFault}
-use Rattle.px_restart.specs.declared.restart.Restart.{Restart}
 use Rattle.px_model.specs.declared.machine.Open.{Open}
 use Rattle.px_model.specs.declared.write.Write.{Write}
 use Rattle.px_model.specs.Machine.{Machine}
@@ -19,6 +18,7 @@ use Rattle.px_calls.specs.declared.status.Status.TheVariants.{OutputFault, OutOf
 use Rattle.px_calls.specs.Steps.{open_of, is_refusal, reply_of, state_after}
 use Rattle.px_calls.specs.Texts.{reply_text}
 use Rattle.px_told.specs.declared.change.Change.{Change}
+use Rattle.px_restart.specs.declared.restart.Restart.{Restart}
 use Rattle.px_xlog.specs.Log.{Log, full_at, most_frames}
 use Rattle.px_logged.specs.Logged.{put_of, end_of, logged_when_done, logged}
 use Rattle.px_standing.specs.Stored.{Stored}

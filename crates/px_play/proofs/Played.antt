@@ -7,7 +7,6 @@ use Rattle.std.proofs.lemmas.Option.{slice_get_within, get_or_from_slice_get, sa
 use Rattle.px_site.specs.State.{State, EachMoment}
 use Rattle.px_site.specs.Cause.{Counts, NoneFell}
 use Rattle.px_site.proofs.Moments.{then_moments, no_moment}
-use Rattle.px_restart.specs.declared.restart.Restart.{Restart}
 use Rattle.px_model.specs.Machine.{Machine, commits}
 use Rattle.px_calls.specs.declared.call.Call.{Call}
 use Rattle.px_calls.specs.declared.status.Status.{Status}
@@ -15,9 +14,10 @@ use Rattle.px_calls.specs.declared.status.Status.TheVariants.{Done, BadLine, Dis
 use Rattle.px_calls.specs.Histories.{state_after_all}
 use Rattle.px_calls.specs.Steps.{reply_of, state_after}
 use Rattle.px_calls.specs.Texts.{reply_text}
+use Rattle.px_told.specs.declared.change.Change.{Change}
 use Rattle.px_script.specs.Grammar.{command_line}
 use Rattle.px_script.specs.Progress.{Progress}
-use Rattle.px_told.specs.declared.change.Change.{Change}
+use Rattle.px_restart.specs.declared.restart.Restart.{Restart}
 use Rattle.px_xlog.specs.Log.{most_frames}
 use Rattle.px_logged.specs.Logged.{logged, logged_by_all}
 use Rattle.px_standing.specs.Stored.{Stored}

@@ -3,20 +3,19 @@ use Rattle.std.proofs.Common.{ℕ, ◌+◌, ◌^◌, ◌<◌, ◌≤◌, List, [
 use Rattle.std.proofs.lemmas.List.{length-map}
 use Rattle.px_site.specs.Disk.{FileState}
 use Rattle.px_site.specs.State.{State, spoke}
-use Rattle.px_scan.specs.Scan.{CanFrames}
-use Rattle.px_scan.proofs.Scans.{is_scan}
-use Rattle.px_restart.specs.declared.restart.Restart.{Restart}
 use Rattle.px_model.specs.Machine.{Machine, commits}
 use Rattle.px_told.specs.declared.change.Change.{Change}
+use Rattle.px_restart.specs.declared.restart.Restart.{Restart}
+use Rattle.px_scan.specs.Scan.{CanFrames}
+use Rattle.px_scan.proofs.Scans.{is_scan}
 use Rattle.px_xlog.specs.Payload.{change_text}
-use Rattle.px_standing.specs.Standing.{Files}
 use Rattle.px_xlog.specs.Contents.{the_log}
-use Rattle.px_standing.specs.Images.{IsPlainImage}
 use Rattle.px_xlog.specs.Log.{Log, HasFirst}
 use Rattle.px_xlog.proofs.Appending.{first_survive}
 use Rattle.px_logged.proofs.Held.{commits_within}
+use Rattle.px_standing.specs.Standing.{Files}
+use Rattle.px_standing.specs.Images.{IsPlainImage, HasCommitted}
 use Rattle.px_standing.specs.Stored.{Stored}
-use Rattle.px_standing.specs.Images.{HasCommitted}
 use Rattle.px_standing.proofs.Settling.{grows}
 use Rattle.px_standing.proofs.Standing.{image_stands}
 

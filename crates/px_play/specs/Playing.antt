@@ -1,7 +1,6 @@
 -- What the playing of a script tells and leaves, on a store that is stored, with an input that tells its bytes.
 use Rattle.std.specs.Prelude.{◌≡◌, ◌≢◌, ◌⊎◌, ℕ, ◌+◌, ◌<◌, ◌≤◌, List, [], ◌∷◌, ◌++◌, length, map, take, Some, slice_get}
 use Rattle.px_site.specs.State.{State}
-use Rattle.px_restart.specs.declared.restart.Restart.{Restart}
 use Rattle.px_model.specs.Machine.{Machine}
 use Rattle.px_calls.specs.declared.call.Call.{Call}
 use Rattle.px_calls.specs.declared.reply.Reply.{Reply}
@@ -10,8 +9,9 @@ use Rattle.px_calls.specs.declared.status.Status.TheVariants.{Done, Usage, BadLi
 use Rattle.px_calls.specs.Steps.{reply_of, state_after}
 use Rattle.px_calls.specs.Histories.{state_after_all}
 use Rattle.px_calls.specs.Texts.{reply_text}
-use Rattle.px_script.specs.Lines.{complete_lines, lines_at_end}
 use Rattle.px_told.specs.declared.change.Change.{Change}
+use Rattle.px_script.specs.Lines.{complete_lines, lines_at_end}
+use Rattle.px_restart.specs.declared.restart.Restart.{Restart}
 use Rattle.px_xlog.specs.Log.{most_frames}
 use Rattle.px_logged.specs.Logged.{logged, logged_by_all}
 use Rattle.px_standing.specs.Stored.{Stored}

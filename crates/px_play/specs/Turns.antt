@@ -1,19 +1,18 @@
 -- One line of a script: its call is made, and the reply is told.
 use Rattle.std.specs.Prelude.{◌≡◌, ◌≢◌, ◌⊎◌, ⊤, ℕ, ◌≤◌, List, [], ◌∷◌, ◌++◌, length, take, Some, None, Result, Ok, Err}
-use Rattle.px_site.specs.declared.error.SiteError.TheVariants.{OutOfMemory as SiteShort, Fault as SiteFault}
 use Rattle.px_site.specs.State.{State, EachMoment, spoke}
 use Rattle.px_site.specs.Cause.{Counts, Rose}
-use Rattle.px_restart.specs.declared.restart.Restart.{Restart}
 use Rattle.px_model.specs.Machine.{Machine, commits}
 use Rattle.px_calls.specs.declared.call.Call.{Call}
 use Rattle.px_calls.specs.declared.reply.Reply.{Reply}
 use Rattle.px_calls.specs.declared.status.Status.{Status}
-use Rattle.px_calls.specs.declared.status.Status.TheVariants.{BadLine, Damaged, DiskFault, OutputFault, OutOfMemory, LogFull}
+use Rattle.px_calls.specs.declared.status.Status.TheVariants.{BadLine, DiskFault, OutputFault, OutOfMemory, LogFull}
 use Rattle.px_calls.specs.Steps.{reply_of, state_after}
 use Rattle.px_calls.specs.Histories.{state_after_all}
 use Rattle.px_calls.specs.Texts.{reply_text}
-use Rattle.px_script.specs.Grammar.{command_line}
 use Rattle.px_told.specs.declared.change.Change.{Change}
+use Rattle.px_script.specs.Grammar.{command_line}
+use Rattle.px_restart.specs.declared.restart.Restart.{Restart}
 use Rattle.px_xlog.specs.Log.{most_frames}
 use Rattle.px_logged.specs.Logged.{logged}
 use Rattle.px_standing.specs.Stored.{Stored}

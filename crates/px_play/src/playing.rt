@@ -1,10 +1,10 @@
 ghost use Rattle.std.specs.Prelude.{◌≡◌, ◌≤◌, ◌++◌, ℕ, List, None};
 ghost use Rattle.px_site.specs.Cause.{NoneFell};
 ghost use Rattle.px_site.specs.State.{EachMoment};
-ghost use Rattle.px_restart.specs.declared.restart.Restart.{Restart};
 ghost use Rattle.px_model.specs.Machine.{commits};
 ghost use Rattle.px_calls.specs.Histories.{state_after_all};
 ghost use Rattle.px_told.specs.declared.change.Change.{Change};
+ghost use Rattle.px_restart.specs.declared.restart.Restart.{Restart};
 ghost use Rattle.px_standing.specs.Stored.{Stored};
 ghost use Rattle.px_play.specs.Acknowledged.{KeepsAcknowledged, TellsWhole, acknowledged};
 ghost use Rattle.px_play.specs.Causes.{HasPlayCause};

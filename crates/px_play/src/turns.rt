@@ -1,10 +1,10 @@
 // One line of a script: its call, the core's reply, and that the reply is told.
 ghost use Rattle.std.specs.Prelude.{◌≡◌, ℕ, List, Some, None, IfErr, OnOk};
 ghost use Rattle.px_site.specs.Cause.{NoneFell};
-ghost use Rattle.px_restart.specs.declared.restart.Restart.{Restart};
 ghost use Rattle.px_calls.specs.declared.call.Call.{Call};
-ghost use Rattle.px_script.specs.Grammar.{command_line};
 ghost use Rattle.px_told.specs.declared.change.Change.{Change};
+ghost use Rattle.px_script.specs.Grammar.{command_line};
+ghost use Rattle.px_restart.specs.declared.restart.Restart.{Restart};
 ghost use Rattle.px_standing.specs.Stored.{Stored};
 ghost use Rattle.px_play.specs.Causes.{HasPlayCause};
 ghost use Rattle.px_play.specs.Turns.{HasAnswerEnd, HasTellEnd, HasTurnEnd, KeepsWithin, TellsReply, TurnsRight};

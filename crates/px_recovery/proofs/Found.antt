@@ -4,27 +4,27 @@ use Rattle.std.proofs.lemmas.List.{take_all}
 use Rattle.px_site.specs.declared.name.FileName.TheVariants.{Restart as RestartFile}
 use Rattle.px_site.specs.Disk.{at_rest}
 use Rattle.px_site.specs.State.{State, Stands}
-use Rattle.px_scan.specs.Scan.{frames_of}
-use Rattle.px_scan.proofs.Scans.{frames_of-frames}
-use Rattle.px_restart.specs.declared.restart.Restart.{Restart}
-use Rattle.px_restart.specs.Restart.{CanRestart, IsPicked}
 use Rattle.px_model.specs.declared.row.Row.{Row}
 use Rattle.px_model.specs.Machine.{Machine, fresh}
 use Rattle.px_told.specs.declared.change.Change.{Change}
-use Rattle.px_xlog.specs.Log.{Log, IsLogOf}
-use Rattle.px_xlog.specs.Payload.{change_text, may_hold_all}
-use Rattle.px_standing.specs.Standing.{Files, first_restart, second_restart, base_after, Finds}
-use Rattle.px_xlog.specs.Contents.{the_log, log_text, Scans}
 use Rattle.px_told.specs.Changes.{stored_number, greatest_stored}
 use Rattle.px_told.specs.Commits.{commits_in}
 use Rattle.px_told.specs.Writes.{rows_in}
+use Rattle.px_restart.specs.declared.restart.Restart.{Restart}
+use Rattle.px_restart.specs.Restart.{CanRestart, IsPicked}
+use Rattle.px_scan.specs.Scan.{frames_of}
+use Rattle.px_scan.proofs.Scans.{frames_of-frames}
+use Rattle.px_xlog.specs.Log.{Log, IsLogOf}
+use Rattle.px_xlog.specs.Payload.{change_text, may_hold_all}
+use Rattle.px_xlog.specs.Contents.{the_log, log_text, Scans}
 use Rattle.px_xlog.proofs.FramesOfChanges.{can_frames}
 use Rattle.px_logged.specs.Fitting.{Fits}
 use Rattle.px_logged.specs.Recounting.{Recounts}
 use Rattle.px_logged.proofs.Fitted.{fresh_fits}
-use Rattle.px_standing.proofs.Finding.{base_within, found_scan}
 use Rattle.px_logged.proofs.Held.{commits_within}
 use Rattle.px_logged.proofs.Recounted.{fresh_recounts}
+use Rattle.px_standing.specs.Standing.{Files, first_restart, second_restart, base_after, Finds}
+use Rattle.px_standing.proofs.Finding.{base_within, found_scan}
 use Rattle.px_standing.specs.Stored.{RestartsRest, Stored}
 use Rattle.px_recovery.specs.Opening.{opened_machine}
 use Rattle.px_recovery.proofs.OneStore.{one_picked, one_scan}

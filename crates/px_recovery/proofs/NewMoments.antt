@@ -8,17 +8,17 @@ use Rattle.px_site.specs.State.{State, Moment, EachMoment, Changes, Syncs, with_
 use Rattle.px_site.proofs.Files.{stands, stands_changed, change_on_file, sync_on_file, same_file_is}
 use Rattle.px_site.proofs.Images.{length-overlay, not_either, outside, overlay_other}
 use Rattle.px_site.proofs.Moments.{then_moments, weaker_moments}
-use Rattle.px_restart.specs.declared.restart.Restart.{Restart}
 use Rattle.px_model.specs.declared.limits.TheConstants.{MOST_TABLES, SHORTEST_SHORT, LONGEST_SHORT}
+use Rattle.px_restart.specs.declared.restart.Restart.{Restart}
 use Rattle.px_restart.specs.declared.text.TheConstants.{VERSION}
 use Rattle.px_restart.specs.Restart.{CanRestart, RestartAt, IsPicked, restart_text}
 use Rattle.px_restart.proofs.Restarts.{one_restart}
 use Rattle.px_xlog.specs.Written.{HasAt, WasWritten, IsPlainLog}
+use Rattle.px_xlog.specs.Contents.{the_log}
+use Rattle.px_xlog.proofs.AtRest.{image_of_rest}
 use Rattle.px_standing.specs.Images.{IsPlainRestart, IsPlainImage, ImagesAreNew, CanMake}
 use Rattle.px_standing.specs.Settled.{Settled}
 use Rattle.px_standing.specs.Standing.{Files, StandsFor, HasNoRestart}
-use Rattle.px_xlog.specs.Contents.{the_log}
-use Rattle.px_xlog.proofs.AtRest.{image_of_rest}
 use Rattle.px_recovery.specs.Making.{first_file, second_file, first_saved, with_restart, IsFree, IsWritten, WritesFirstFile, StaysNew}
 use Rattle.px_recovery.proofs.Deciding.{decide_restart}
 use Rattle.px_recovery.proofs.NewStore.{new_store, written_checks, other_image, no_second, no_log, made_settled}

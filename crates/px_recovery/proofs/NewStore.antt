@@ -6,20 +6,20 @@ use Rattle.px_site.specs.declared.name.FileName.{FileName}
 use Rattle.px_site.specs.Disk.{FileState, IsImage, at_rest}
 use Rattle.px_site.specs.Names.{same_file}
 use Rattle.px_site.specs.State.{State, Moment}
+use Rattle.px_told.specs.Commits.{commits_in}
+use Rattle.px_told.specs.Writes.{rows_in}
 use Rattle.px_frame.specs.declared.frame.TheConstants.{HEADER_SIZE}
 use Rattle.px_frame.specs.Frame.{frame}
-use Rattle.px_scan.specs.Scan.{frames, frames_of, frames_within}
 use Rattle.px_restart.specs.declared.restart.Restart.{Restart}
 use Rattle.px_restart.specs.declared.text.TheConstants.{VERSION}
 use Rattle.px_restart.specs.Restart.{CanRestart, RestartAt, restart_text}
+use Rattle.px_scan.specs.Scan.{frames, frames_of, frames_within}
 use Rattle.px_xlog.specs.Written.{HasAt, IsPlainLog, IsBehind}
+use Rattle.px_xlog.specs.Contents.{the_log}
+use Rattle.px_xlog.proofs.AtRest.{image_of_rest}
 use Rattle.px_standing.specs.Images.{IsPlainRestart, IsPlainImage, CanMake}
 use Rattle.px_standing.specs.Settled.{Settled}
 use Rattle.px_standing.specs.Standing.{Files, StandsFor}
-use Rattle.px_xlog.specs.Contents.{the_log}
-use Rattle.px_told.specs.Commits.{commits_in}
-use Rattle.px_told.specs.Writes.{rows_in}
-use Rattle.px_xlog.proofs.AtRest.{image_of_rest}
 use Rattle.px_recovery.specs.Making.{first_file, second_file, first_saved, with_restart, IsFree, IsWritten}
 use Rattle.px_recovery.proofs.Fronts.{has_text, is_text}
 

@@ -1,10 +1,10 @@
 -- Files say one restart and one list of changes.
 use Rattle.std.proofs.Common.{◌≡◌, ℕ, ◌+◌, true, List, [], ◌∷◌, map, drop, refl, sym, ap, ◌∙◌, inl, inr, arith}
 use Rattle.std.proofs.lemmas.Bool.{and_parts}
+use Rattle.px_told.specs.declared.change.Change.{Change}
 use Rattle.px_restart.specs.declared.restart.Restart.{Restart}
 use Rattle.px_restart.specs.Restart.{IsPicked}
 use Rattle.px_restart.proofs.Restarts.{one_restart}
-use Rattle.px_told.specs.declared.change.Change.{Change}
 use Rattle.px_xlog.specs.Payload.{change_text, may_hold, may_hold_all}
 use Rattle.px_xlog.specs.Contents.{Scans}
 use Rattle.px_xlog.proofs.FramesOfChanges.{may_be_written}

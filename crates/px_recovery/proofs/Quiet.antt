@@ -3,9 +3,9 @@ use Rattle.std.proofs.Common.{◌≡◌, ℕ, List, [], ◌∷◌, ◌++◌, ref
 use Rattle.std.specs.List.{AllByRecursion}
 use Rattle.px_site.specs.State.{State, Moment, EachMoment, OnFile, history}
 use Rattle.px_site.proofs.Moments.{then_moments, weaker_moments}
-use Rattle.px_model.specs.declared.row.Row.{Row}
 use Rattle.px_site.specs.declared.name.FileName.{FileName}
 use Rattle.px_site.specs.Disk.{FileState}
+use Rattle.px_model.specs.declared.row.Row.{Row}
 use Rattle.px_standing.specs.Images.{KeepsStanding}
 use Rattle.px_standing.specs.Settled.{Settled}
 use Rattle.px_recovery.specs.Opening.{TellsNothing}

@@ -1,12 +1,12 @@
 -- A store in which something is found is neither absent nor damaged.
 use Rattle.std.proofs.Common.{◌≡◌, ◌≢◌, ℕ, ◌+◌, true, List, [], ◌∷◌, ◌++◌, length, map, drop, sym, ap, subst, ◌∙◌, inl, inr, arith}
 use Rattle.std.proofs.lemmas.Bool.{and_parts}
-use Rattle.px_restart.specs.declared.restart.Restart.{Restart}
 use Rattle.px_told.specs.declared.change.Change.{Change}
+use Rattle.px_restart.specs.declared.restart.Restart.{Restart}
 use Rattle.px_xlog.specs.Payload.{change_text, may_hold, may_hold_all}
-use Rattle.px_standing.specs.Standing.{Files, first_restart, second_restart, HasNoRestart, Finds}
 use Rattle.px_xlog.specs.Contents.{the_log, IsDamage, Scans}
 use Rattle.px_xlog.proofs.FramesOfChanges.{length-map-text}
+use Rattle.px_standing.specs.Standing.{Files, first_restart, second_restart, HasNoRestart, Finds}
 use Rattle.px_standing.proofs.Finding.{found_scan}
 use Rattle.px_recovery.specs.Errors.{HasRefusal, IsPassing}
 use Rattle.px_recovery.specs.declared.error.OpenError.{OpenError}

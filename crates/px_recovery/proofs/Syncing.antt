@@ -11,12 +11,12 @@ use Rattle.px_site.proofs.Files.{same_file_is}
 use Rattle.px_site.proofs.Images.{image_at_rest}
 use Rattle.px_site.proofs.Moments.{sync_moments}
 use Rattle.px_model.specs.declared.row.Row.{Row}
-use Rattle.px_standing.specs.Images.{IsPlainRestart, IsPlainImage, ImagesStandFor, KeepsStanding}
 use Rattle.px_xlog.specs.Written.{IsPlainLog, IsBehind}
-use Rattle.px_standing.specs.Settled.{Settled}
-use Rattle.px_standing.specs.Standing.{Files}
 use Rattle.px_xlog.specs.Contents.{the_log}
 use Rattle.px_xlog.proofs.AtRest.{image_of_rest}
+use Rattle.px_standing.specs.Images.{IsPlainRestart, IsPlainImage, ImagesStandFor, KeepsStanding}
+use Rattle.px_standing.specs.Settled.{Settled}
+use Rattle.px_standing.specs.Standing.{Files}
 use Rattle.px_standing.specs.Stored.{RestartsRest}
 use Rattle.px_recovery.specs.Making.{first_file, second_file}
 use Rattle.px_recovery.specs.Opening.{TellsNothing}

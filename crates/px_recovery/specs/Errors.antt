@@ -11,8 +11,8 @@ use Rattle.px_restart.specs.declared.restart.Restart.{Restart}
 use Rattle.px_restart.specs.Restart.{IsPicked}
 use Rattle.px_xlog.specs.declared.error.LogOpenError.{LogOpenError}
 use Rattle.px_xlog.specs.declared.error.LogOpenError.TheVariants.{OutOfMemory as LogShort, Fault as LogFailed, Damaged as LogDamaged}
-use Rattle.px_standing.specs.Standing.{Files, first_restart, second_restart, HasNoRestart}
 use Rattle.px_xlog.specs.Contents.{the_log, IsDamage}
+use Rattle.px_standing.specs.Standing.{Files, first_restart, second_restart, HasNoRestart}
 use Rattle.px_recovery.specs.Making.{IsFree}
 use Rattle.px_recovery.specs.declared.error.MakeError.{MakeError}
 use Rattle.px_recovery.specs.declared.error.MakeError.TheVariants.{OutOfMemory, Fault as FaultOf, NotEmpty}

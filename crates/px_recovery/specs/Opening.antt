@@ -1,14 +1,14 @@
 -- What opening a store finds, and what it leaves of the site at each moment.
 use Rattle.std.specs.Prelude.{◌≡◌, ◌-◌, List, [], length, None, Result, Ok, Err}
 use Rattle.px_site.specs.State.{Moment}
-use Rattle.px_restart.specs.declared.restart.Restart.{Restart}
-use Rattle.px_restart.specs.Restart.{IsPicked}
 use Rattle.px_model.specs.Machine.{Machine, fresh}
 use Rattle.px_told.specs.declared.change.Change.{Change}
-use Rattle.px_standing.specs.Standing.{Files, first_restart, second_restart, base_after}
-use Rattle.px_xlog.specs.Contents.{the_log, Scans}
 use Rattle.px_told.specs.Commits.{commits_in}
 use Rattle.px_told.specs.Writes.{rows_in}
+use Rattle.px_restart.specs.declared.restart.Restart.{Restart}
+use Rattle.px_restart.specs.Restart.{IsPicked}
+use Rattle.px_xlog.specs.Contents.{the_log, Scans}
+use Rattle.px_standing.specs.Standing.{Files, first_restart, second_restart, base_after}
 use Rattle.px_core.specs.Core.{Kept}
 use Rattle.px_recovery.specs.declared.opening.OpenReport.{OpenReport}
 use Rattle.px_recovery.specs.declared.opening.Opened.{Opened}

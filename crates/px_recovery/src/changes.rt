@@ -2,10 +2,10 @@
 ghost use Rattle.std.specs.Prelude.{◌≡◌, ℕ, nat_eq, unwrap_or, [], IfOk, OnOk};
 ghost use Rattle.std.specs.HashMap.{get};
 ghost use Rattle.px_model.specs.Rows.{after};
-ghost use Rattle.px_standing.specs.Standing.{base_after};
 ghost use Rattle.px_told.specs.Commits.{commits_in};
 ghost use Rattle.px_told.specs.Writes.{rows_in, writes_of};
 ghost use Rattle.px_told.specs.Changes.{stored_number};
+ghost use Rattle.px_standing.specs.Standing.{base_after};
 ghost use Rattle.px_recovery.specs.Beginnings.{noted};
 
 use px_model::{Row, RowList};

@@ -3,7 +3,7 @@
 //! - `making`: `make`, which makes a store without rows where there is none.
 //! - `opening`: `open_store`, which opens the store that a site stands for.
 //! - `restarts`: which restart counts, as the two restart files read.
-//! - `error`: `MakeError` and `OpenError`, why a store isn't made or opened.
+//! - `error`: `MakeError` and `OpenError`, why a store isn't made or opened, and the status by which each ends a run.
 //!
 //! The definitions: `specs/Making` which sites are free, and what `make` leaves of them, at each of its moments too;
 //! `specs/Opening` what an opening finds; `specs/Errors` causes.

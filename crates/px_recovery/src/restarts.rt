@@ -2,8 +2,8 @@
 ghost use Rattle.std.specs.Prelude.{◌≡◌, ℕ, List, IfOk, IfErr, IfSome, IfNone, OnOk};
 ghost use Rattle.px_site.specs.Cause.{HasCause, NoneFell};
 ghost use Rattle.px_site.specs.State.{EachMoment};
-ghost use Rattle.px_restart.specs.Restart.{CanRestart, IsPicked};
 ghost use Rattle.px_model.specs.declared.row.Row.{Row};
+ghost use Rattle.px_restart.specs.Restart.{CanRestart, IsPicked};
 ghost use Rattle.px_standing.specs.Images.{KeepsStanding};
 ghost use Rattle.px_standing.specs.Settled.{Settled};
 ghost use Rattle.px_standing.specs.Standing.{HasNoRestart, first_restart, second_restart};

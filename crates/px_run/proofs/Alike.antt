@@ -4,15 +4,15 @@ use Rattle.std.specs.List.{AllByRecursion}
 use Rattle.px_site.specs.declared.name.FileName.{FileName}
 use Rattle.px_site.specs.Disk.{FileState}
 use Rattle.px_site.specs.State.{State, Moment}
-use Rattle.px_restart.specs.declared.restart.Restart.{Restart}
 use Rattle.px_model.specs.declared.row.Row.{Row}
 use Rattle.px_told.specs.declared.change.Change.{Change}
-use Rattle.px_standing.specs.Standing.{Files, Finds}
-use Rattle.px_xlog.specs.Contents.{the_log}
 use Rattle.px_told.specs.Commits.{commits_in}
 use Rattle.px_told.specs.Writes.{rows_in}
-use Rattle.px_standing.specs.Images.{IsPlainImage, ImagesStandFor, ImagesAreNew}
+use Rattle.px_restart.specs.declared.restart.Restart.{Restart}
+use Rattle.px_xlog.specs.Contents.{the_log}
 use Rattle.px_xlog.specs.Written.{IsBehind}
+use Rattle.px_standing.specs.Standing.{Files, Finds}
+use Rattle.px_standing.specs.Images.{IsPlainImage, ImagesStandFor, ImagesAreNew}
 use Rattle.px_standing.specs.Settled.{Settled, IsSettledStore}
 
 -- what a crash may leave depends on the files alone

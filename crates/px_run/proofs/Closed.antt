@@ -6,7 +6,6 @@ use Rattle.px_site.specs.Disk.{FileState}
 use Rattle.px_site.specs.State.{State, Moment, EachMoment}
 use Rattle.px_site.specs.Cause.{Counts, Rose}
 use Rattle.px_site.proofs.Moments.{then_moments, weaker_moments}
-use Rattle.px_restart.specs.declared.restart.Restart.{Restart}
 use Rattle.px_calls.specs.declared.call.Call.{Call}
 use Rattle.px_calls.specs.declared.status.Status.{Status}
 use Rattle.px_calls.specs.declared.status.Status.TheVariants.{Done, Usage, BadLine, NoStore, NotEmpty, Damaged, DiskFault, SourceFault, OutputFault, OutOfMemory, LogFull, TooLong}
@@ -14,6 +13,7 @@ use Rattle.px_calls.specs.Closing.{closing_line}
 use Rattle.px_told.specs.declared.change.Change.{Change}
 use Rattle.px_told.specs.Commits.{commits_in}
 use Rattle.px_told.specs.Writes.{rows_in}
+use Rattle.px_restart.specs.declared.restart.Restart.{Restart}
 use Rattle.px_standing.specs.Images.{CanMake, ImagesAreNew, ImagesStandFor}
 use Rattle.px_standing.specs.Settled.{IsSettledStore}
 use Rattle.px_recovery.specs.Making.{first_file}

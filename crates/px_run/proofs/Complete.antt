@@ -4,8 +4,6 @@ use Rattle.std.proofs.lemmas.List.{append-nil}
 use Rattle.px_site.specs.Cause.{Counts}
 use Rattle.px_site.specs.State.{State}
 use Rattle.px_source.specs.Source.{Rose as ReadRose}
-use Rattle.px_restart.specs.declared.restart.Restart.{Restart}
-use Rattle.px_restart.proofs.Restarts.{restart_long}
 use Rattle.px_model.specs.Machine.{Machine}
 use Rattle.px_calls.specs.declared.call.Call.{Call}
 use Rattle.px_calls.specs.declared.status.Status.{Status}
@@ -13,13 +11,15 @@ use Rattle.px_calls.specs.declared.status.Status.TheVariants.{Done, BadLine, Not
 use Rattle.px_calls.specs.Histories.{by, FirstCommitterWins, machine_after, state_after_all}
 use Rattle.px_calls.specs.Steps.{state_after}
 use Rattle.px_machine_laws.proofs.EveryHistory.{first_committer_wins}
-use Rattle.px_script.specs.Grammar.{command_line}
-use Rattle.px_script.specs.Lines.{complete_after, rest_after, complete_lines, open_line, last_line, lines_at_end}
 use Rattle.px_told.specs.declared.change.Change.{Change}
-use Rattle.px_standing.specs.Standing.{Files, first_restart, second_restart, base_after}
 use Rattle.px_told.specs.Commits.{commits_in}
 use Rattle.px_told.specs.Writes.{rows_in}
+use Rattle.px_script.specs.Grammar.{command_line}
+use Rattle.px_script.specs.Lines.{complete_after, rest_after, complete_lines, open_line, last_line, lines_at_end}
+use Rattle.px_restart.specs.declared.restart.Restart.{Restart}
+use Rattle.px_restart.proofs.Restarts.{restart_long}
 use Rattle.px_logged.specs.Logged.{logged, logged_by_all}
+use Rattle.px_standing.specs.Standing.{Files, first_restart, second_restart, base_after}
 use Rattle.px_recovery.specs.Making.{IsFree, first_file, second_file}
 use Rattle.px_recovery.specs.Opening.{opened_machine}
 use Rattle.px_play.specs.Input.{AreCommands, EndsAt, EndsInput, IsFirstBad, IsOverlong, script_of}

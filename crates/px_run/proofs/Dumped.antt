@@ -2,19 +2,18 @@
 use Rattle.std.proofs.Common.{◌≡◌, ℕ, List, refl, subst, arith}
 use Rattle.px_site.specs.State.{State, EachMoment}
 use Rattle.px_site.proofs.Moments.{then_moments, weaker_moments}
-use Rattle.px_restart.specs.declared.restart.Restart.{Restart}
 use Rattle.px_model.specs.declared.row.Row.{Row}
 use Rattle.px_calls.specs.declared.status.Status.{Status}
 use Rattle.px_calls.specs.declared.status.Status.TheVariants.{Done, DiskFault, OutOfMemory}
 use Rattle.px_told.specs.declared.change.Change.{Change}
 use Rattle.px_told.specs.Writes.{rows_in}
+use Rattle.px_restart.specs.declared.restart.Restart.{Restart}
 use Rattle.px_standing.specs.Images.{ImagesStandFor, KeepsStanding}
 use Rattle.px_standing.specs.Settled.{IsSettledStore}
 use Rattle.px_recovery.specs.declared.error.OpenError.{OpenError}
 use Rattle.px_recovery.specs.declared.error.OpenError.TheVariants.{OutOfMemory as OpenShort, Fault as OpenFault, NoStore as NoneThere, Damaged as BadPlace}
-use Rattle.px_recovery.specs.Errors.{HasRefusal}
+use Rattle.px_recovery.specs.Errors.{HasRefusal, status_of_opening}
 use Rattle.px_run.specs.Dumping.{OnDone, ShowsStore, dump_pieces}
-use Rattle.px_recovery.specs.Errors.{status_of_opening}
 use Rattle.px_run.specs.Working.{DumpsRows, OnlyTells, TellsRows}
 use Rattle.px_run.proofs.Alike.{stand_alike, store_alike}
 use Rattle.px_run.proofs.Opening.{not_without_restart, shown_whole}

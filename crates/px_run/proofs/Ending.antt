@@ -8,7 +8,6 @@ use Rattle.px_site.specs.Cause.{Counts}
 use Rattle.px_site.specs.State.{State, EachMoment}
 use Rattle.px_site.specs.Names.{file_text}
 use Rattle.px_site.proofs.Moments.{same_moment, then_moments}
-use Rattle.px_restart.specs.declared.restart.Restart.{Restart}
 use Rattle.px_model.specs.Machine.{Machine}
 use Rattle.px_calls.specs.declared.call.Call.{Call}
 use Rattle.px_calls.specs.declared.reply.Reply.{Reply}
@@ -16,8 +15,9 @@ use Rattle.px_calls.specs.declared.status.Status.{Status}
 use Rattle.px_calls.specs.declared.status.Status.TheVariants.{Done, Usage, BadLine, NoStore, NotEmpty, Damaged, DiskFault, SourceFault, OutputFault, OutOfMemory, LogFull, TooLong}
 use Rattle.px_calls.specs.Closing.{closing_line}
 use Rattle.px_calls.specs.Texts.{numbered, reply_text}
-use Rattle.px_script.specs.Lines.{open_line}
 use Rattle.px_told.specs.declared.change.Change.{Change}
+use Rattle.px_script.specs.Lines.{open_line}
+use Rattle.px_restart.specs.declared.restart.Restart.{Restart}
 use Rattle.px_standing.specs.Settled.{IsSettledStore}
 use Rattle.px_standing.proofs.Standing.{last_moment}
 use Rattle.px_recovery.specs.Opening.{opened_machine}

@@ -14,13 +14,12 @@ use Rattle.px_standing.specs.Settled.{Settled}
 use Rattle.px_standing.proofs.Standing.{last_moment}
 use Rattle.px_recovery.specs.declared.error.MakeError.{MakeError}
 use Rattle.px_recovery.specs.declared.error.MakeError.TheVariants.{OutOfMemory as MakeShort, Fault as MakeFault, NotEmpty as MakeUsed}
-use Rattle.px_recovery.specs.Errors.{HasMakeCause, MakesFileFault, RefusesUsed}
+use Rattle.px_recovery.specs.Errors.{HasMakeCause, MakesFileFault, RefusesUsed, status_of_make}
 use Rattle.px_recovery.specs.Making.{IsFree, IsMade, StaysNew, WritesFirstFile, first_file, first_saved}
+use Rattle.px_play.specs.Told.{status_of_tell}
 use Rattle.px_run.specs.declared.command.Command.TheVariants.{Make}
 use Rattle.px_run.specs.Causes.{HasStatusCause}
 use Rattle.px_run.specs.Making.{Made, made_pieces}
-use Rattle.px_play.specs.Told.{status_of_tell}
-use Rattle.px_recovery.specs.Errors.{status_of_make}
 use Rattle.px_run.specs.Working.{MakesStore, OnlyTells}
 use Rattle.px_run.proofs.Alike.{new_alike, settled_alike}
 use Rattle.px_run.proofs.Pieces.{only_spoke, told_nothing}

@@ -4,23 +4,23 @@ use Rattle.std.proofs.lemmas.Bool.{and_parts}
 use Rattle.std.proofs.lemmas.List.{length-map}
 use Rattle.px_site.specs.State.{State}
 use Rattle.px_site.specs.declared.name.FileName.{FileName}
-use Rattle.px_scan.specs.Scan.{CanFrames}
-use Rattle.px_scan.proofs.Scans.{is_scan}
-use Rattle.px_restart.specs.declared.restart.Restart.{Restart}
-use Rattle.px_restart.specs.Restart.{IsPicked}
 use Rattle.px_model.specs.Machine.{Machine}
 use Rattle.px_calls.specs.declared.status.Status.{Status}
 use Rattle.px_told.specs.declared.change.Change.{Change}
+use Rattle.px_told.specs.Writes.{rows_in}
+use Rattle.px_restart.specs.declared.restart.Restart.{Restart}
+use Rattle.px_restart.specs.Restart.{IsPicked}
+use Rattle.px_scan.specs.Scan.{CanFrames}
+use Rattle.px_scan.proofs.Scans.{is_scan}
 use Rattle.px_xlog.specs.Log.{Log}
 use Rattle.px_xlog.specs.Payload.{change_text, may_hold, may_hold_all}
-use Rattle.px_standing.specs.Standing.{Files, first_restart, second_restart, HasNoRestart}
 use Rattle.px_xlog.specs.Contents.{the_log, IsDamage, Scans}
-use Rattle.px_told.specs.Writes.{rows_in}
+use Rattle.px_logged.specs.Recounting.{rows_now}
+use Rattle.px_standing.specs.Standing.{Files, first_restart, second_restart, HasNoRestart}
 use Rattle.px_standing.specs.Settled.{IsSettledStore}
 use Rattle.px_standing.specs.Stored.{ReadsImages, Stored}
 use Rattle.px_standing.proofs.Settling.{stored_settled}
 use Rattle.px_standing.proofs.Finding.{found_scan}
-use Rattle.px_logged.specs.Recounting.{rows_now}
 use Rattle.px_core.specs.Core.{Kept}
 use Rattle.px_recovery.specs.declared.opening.OpenReport.{OpenReport}
 use Rattle.px_recovery.specs.declared.error.OpenError.TheVariants.{Damaged}

@@ -2,18 +2,17 @@
 use Rattle.std.proofs.Common.{◌≡◌, ℕ, List, [], ◌++◌, length, take, drop, codes, refl, sym, ap, subst, ◌∙◌, append_assoc, arith}
 use Rattle.std.proofs.lemmas.List.{append-nil, drop_at, take_all}
 use Rattle.px_site.specs.State.{Moment, telling, told}
-use Rattle.px_restart.specs.declared.restart.Restart.{Restart}
 use Rattle.px_model.specs.Machine.{Machine, commits, fresh}
 use Rattle.px_calls.specs.declared.call.Call.{Call}
 use Rattle.px_calls.specs.Texts.{numbered, opened_line}
-use Rattle.px_script.specs.Lines.{complete_lines}
 use Rattle.px_told.specs.declared.change.Change.{Change}
-use Rattle.px_standing.specs.Standing.{Files, StandsFor}
 use Rattle.px_told.specs.Commits.{commits_in}
 use Rattle.px_told.specs.Writes.{rows_in}
-use Rattle.px_standing.specs.Images.{IsPlainImage, KeepsStanding}
+use Rattle.px_script.specs.Lines.{complete_lines}
+use Rattle.px_restart.specs.declared.restart.Restart.{Restart}
 use Rattle.px_logged.specs.Recounting.{rows_now}
-use Rattle.px_standing.specs.Images.{HasCommitted}
+use Rattle.px_standing.specs.Standing.{Files, StandsFor}
+use Rattle.px_standing.specs.Images.{IsPlainImage, KeepsStanding, HasCommitted}
 use Rattle.px_recovery.specs.Opening.{opened_machine}
 use Rattle.px_recovery.proofs.Found.{opened_recounts}
 use Rattle.px_play.specs.Acknowledged.{HoldsAcknowledged, KeepsAcknowledged, acknowledged}

@@ -3,7 +3,6 @@ use Rattle.std.proofs.Common.{◌≡◌, ◌⊎◌, ℕ, suc, ◌-◌, ◌≤◌
 use Rattle.std.proofs.lemmas.List.{append-nil, drop_at, take_all}
 use Rattle.px_site.specs.State.{State, EachMoment, spoke, told}
 use Rattle.px_site.proofs.Moments.{weaker_moments}
-use Rattle.px_restart.specs.declared.restart.Restart.{Restart}
 use Rattle.px_model.specs.declared.row.Row.{Row}
 use Rattle.px_model.specs.Machine.{Machine, commits}
 use Rattle.px_calls.specs.declared.call.Call.{Call}
@@ -11,19 +10,20 @@ use Rattle.px_calls.specs.declared.status.Status.{Status}
 use Rattle.px_calls.specs.declared.status.Status.TheVariants.{Done, BadLine, DiskFault, SourceFault, OutputFault, OutOfMemory, LogFull, TooLong}
 use Rattle.px_calls.specs.Texts.{opened_line}
 use Rattle.px_told.specs.declared.change.Change.{Change}
-use Rattle.px_standing.specs.Standing.{StandsFor}
 use Rattle.px_told.specs.Commits.{commits_in}
 use Rattle.px_told.specs.Writes.{rows_in}
-use Rattle.px_standing.specs.Images.{KeepsStanding}
+use Rattle.px_restart.specs.declared.restart.Restart.{Restart}
 use Rattle.px_xlog.specs.Log.{Log, most_frames}
 use Rattle.px_logged.specs.Logged.{logged_by_all}
 use Rattle.px_logged.specs.Recounting.{rows_now}
+use Rattle.px_standing.specs.Standing.{StandsFor}
+use Rattle.px_standing.specs.Images.{KeepsStanding}
 use Rattle.px_standing.specs.Stored.{ReadsImages, Stored}
 use Rattle.px_core.specs.Core.{Kept}
 use Rattle.px_recovery.specs.declared.opening.OpenReport.{OpenReport}
 use Rattle.px_recovery.specs.declared.error.OpenError.{OpenError}
 use Rattle.px_recovery.specs.declared.error.OpenError.TheVariants.{OutOfMemory as OpenShort, Fault as OpenFault, NoStore as NoneThere, Damaged as BadPlace}
-use Rattle.px_recovery.specs.Errors.{HasRefusal}
+use Rattle.px_recovery.specs.Errors.{HasRefusal, status_of_opening}
 use Rattle.px_recovery.specs.Opening.{opened_machine, report_of}
 use Rattle.px_play.specs.Acknowledged.{HoldsAcknowledged, KeepsAcknowledged}
 use Rattle.px_play.specs.Input.{script_of}
@@ -33,7 +33,6 @@ use Rattle.px_play.proofs.Replies.{quiet_acknowledged}
 use Rattle.px_play.proofs.Stays.{stored_image, stored_spoke}
 use Rattle.px_run.specs.Running.{HasAll, RunEnds, log_after, machine_after, opening_line, run_pieces}
 use Rattle.px_run.specs.Dumping.{ShowsStore}
-use Rattle.px_recovery.specs.Errors.{status_of_opening}
 use Rattle.px_run.specs.Working.{RunsScript, TellsPiece}
 use Rattle.px_run.proofs.Opening.{not_without_restart, settles, shown_whole}
 use Rattle.px_run.proofs.Pieces.{piece_moments, told_behind, told_from, told_nothing}

@@ -5,7 +5,6 @@ use Rattle.std.specs.Fmt.{decimal}
 use Rattle.std.proofs.lemmas.List.{append-nil, drop_at, take_all}
 use Rattle.px_site.specs.State.{State, Moment, EachMoment, spoke, telling, told}
 use Rattle.px_site.proofs.Moments.{same_moment, then_moments, weaker_moments}
-use Rattle.px_restart.specs.declared.restart.Restart.{Restart}
 use Rattle.px_model.specs.declared.row.Row.{Row}
 use Rattle.px_model.specs.Machine.{Machine, commits, fresh, published}
 use Rattle.px_calls.specs.declared.call.Call.{Call}
@@ -13,22 +12,23 @@ use Rattle.px_calls.specs.declared.status.Status.{Status}
 use Rattle.px_calls.specs.declared.status.Status.TheVariants.{Done, BadLine, DiskFault, SourceFault, OutputFault, OutOfMemory, LogFull, TooLong}
 use Rattle.px_calls.specs.Histories.{state_after_all}
 use Rattle.px_calls.specs.Texts.{numbered, opened_line}
-use Rattle.px_script.specs.Lines.{complete_lines}
 use Rattle.px_told.specs.declared.change.Change.{Change}
-use Rattle.px_standing.specs.Standing.{Files, StandsFor}
 use Rattle.px_told.specs.Commits.{commits_in}
 use Rattle.px_told.specs.Writes.{rows_in}
-use Rattle.px_standing.specs.Images.{ImagesStandFor, KeepsStanding}
+use Rattle.px_script.specs.Lines.{complete_lines}
+use Rattle.px_restart.specs.declared.restart.Restart.{Restart}
 use Rattle.px_xlog.specs.Log.{Log, most_frames}
 use Rattle.px_logged.specs.Logged.{logged_by_all}
 use Rattle.px_logged.specs.Recounting.{rows_now}
 use Rattle.px_logged.proofs.Grown.{opening_stays, commits_rise, published_stays}
+use Rattle.px_standing.specs.Standing.{Files, StandsFor}
+use Rattle.px_standing.specs.Images.{ImagesStandFor, KeepsStanding}
 use Rattle.px_standing.specs.Stored.{Stored, ReadsImages}
 use Rattle.px_core.specs.Core.{Kept}
 use Rattle.px_recovery.specs.declared.opening.OpenReport.{OpenReport}
 use Rattle.px_recovery.specs.declared.error.OpenError.{OpenError}
 use Rattle.px_recovery.specs.declared.error.OpenError.TheVariants.{OutOfMemory as OpenShort, Fault as OpenFault}
-use Rattle.px_recovery.specs.Errors.{IsPassing}
+use Rattle.px_recovery.specs.Errors.{IsPassing, status_of_opening}
 use Rattle.px_recovery.specs.Opening.{opened_machine, report_of}
 use Rattle.px_play.specs.Acknowledged.{acknowledged, HoldsAcknowledged, KeepsAcknowledged, TellsWhole}
 use Rattle.px_play.specs.Input.{script_of}
@@ -38,7 +38,6 @@ use Rattle.px_play.proofs.Replies.{IsQuiet, line_quiet, quiet_acknowledged}
 use Rattle.px_play.proofs.Stays.{stored_image, stored_spoke}
 use Rattle.px_play.proofs.Words.{no_feed, no_feed_both, decimal_no_feed}
 use Rattle.px_run.specs.Running.{HasAll, RunEnds, log_after, machine_after, opening_line, run_pieces}
-use Rattle.px_recovery.specs.Errors.{status_of_opening}
 use Rattle.px_run.specs.Working.{RunsScript, TellsPiece}
 use Rattle.px_run.proofs.Alike.{stand_alike}
 use Rattle.px_run.proofs.Opening.{settles}

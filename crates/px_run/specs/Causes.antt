@@ -5,13 +5,13 @@ use Rattle.px_site.specs.declared.error.Fault.TheVariants.{Tell}
 use Rattle.px_site.specs.State.{State, EachMoment}
 use Rattle.px_site.specs.Cause.{Counts, Rose}
 use Rattle.px_source.specs.Source.{Rose as ReadRose}
-use Rattle.px_restart.specs.declared.restart.Restart.{Restart}
-use Rattle.px_restart.specs.Restart.{IsPicked}
 use Rattle.px_calls.specs.declared.status.Status.{Status}
 use Rattle.px_calls.specs.declared.status.Status.TheVariants.{Done, Usage, BadLine, NoStore, NotEmpty, Damaged, DiskFault, SourceFault, OutputFault, OutOfMemory, LogFull, TooLong}
-use Rattle.px_standing.specs.Standing.{Files, first_restart, second_restart, HasNoRestart}
+use Rattle.px_restart.specs.declared.restart.Restart.{Restart}
+use Rattle.px_restart.specs.Restart.{IsPicked}
 use Rattle.px_xlog.specs.Contents.{the_log, IsDamage}
 use Rattle.px_xlog.specs.Log.{most_frames}
+use Rattle.px_standing.specs.Standing.{Files, first_restart, second_restart, HasNoRestart}
 use Rattle.px_run.specs.declared.command.Command.{Command}
 use Rattle.px_run.specs.declared.command.Command.TheVariants.{Run}
 use Rattle.px_run.specs.Command.{opens}

@@ -2,16 +2,16 @@
 use Rattle.std.specs.Prelude.{◌≡◌, ℕ, ◌≤◌, List, ◌∷◌, length, map}
 use Rattle.px_site.specs.State.{State}
 use Rattle.px_site.specs.Cause.{Counts}
-use Rattle.px_restart.specs.declared.restart.Restart.{Restart}
-use Rattle.px_restart.specs.Restart.{IsPicked}
 use Rattle.px_model.specs.declared.row.Row.{Row}
 use Rattle.px_calls.specs.declared.status.Status.{Status}
 use Rattle.px_calls.specs.declared.status.Status.TheVariants.{Done, DiskFault, OutputFault, OutOfMemory}
 use Rattle.px_calls.specs.Texts.{count_line, row_line}
 use Rattle.px_told.specs.declared.change.Change.{Change}
-use Rattle.px_standing.specs.Standing.{Files, first_restart, second_restart}
-use Rattle.px_xlog.specs.Contents.{the_log, Scans}
 use Rattle.px_told.specs.Writes.{rows_in}
+use Rattle.px_restart.specs.declared.restart.Restart.{Restart}
+use Rattle.px_restart.specs.Restart.{IsPicked}
+use Rattle.px_xlog.specs.Contents.{the_log, Scans}
+use Rattle.px_standing.specs.Standing.{Files, first_restart, second_restart}
 use Rattle.px_standing.specs.Settled.{IsSettledStore}
 use Rattle.px_run.specs.Told.{TellsInAll}
 

@@ -3,12 +3,12 @@ use Rattle.std.specs.Prelude.{◌≡◌, ◌<◌, ◌≤◌, ℕ, List, [], leng
 use Rattle.px_site.specs.declared.error.Fault.{Fault}
 use Rattle.px_site.specs.declared.name.FileName.{FileName}
 use Rattle.px_site.specs.Cause.{Counts, Rose}
-use Rattle.px_restart.specs.declared.restart.Restart.{Restart}
 use Rattle.px_calls.specs.declared.status.Status.{Status}
 use Rattle.px_calls.specs.declared.status.Status.TheVariants.{Done, OutOfMemory}
+use Rattle.px_told.specs.declared.change.Change.{Change}
 use Rattle.px_script.specs.Lines.{lines_at_end}
 use Rattle.px_script.specs.Progress.{longest_input}
-use Rattle.px_told.specs.declared.change.Change.{Change}
+use Rattle.px_restart.specs.declared.restart.Restart.{Restart}
 use Rattle.px_xlog.specs.Log.{most_frames}
 use Rattle.px_standing.specs.Standing.{Files}
 use Rattle.px_recovery.specs.Opening.{opened_machine}

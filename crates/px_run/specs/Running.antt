@@ -2,21 +2,21 @@
 use Rattle.std.specs.Prelude.{◌≡◌, ◌⊎◌, ℕ, ◌+◌, ◌-◌, ◌≤◌, List, [], ◌∷◌, ◌++◌, length, take}
 use Rattle.px_site.specs.State.{State}
 use Rattle.px_site.specs.Cause.{Counts}
-use Rattle.px_restart.specs.declared.restart.Restart.{Restart}
 use Rattle.px_model.specs.Machine.{Machine, commits}
 use Rattle.px_calls.specs.declared.call.Call.{Call}
 use Rattle.px_calls.specs.declared.status.Status.{Status}
 use Rattle.px_calls.specs.declared.status.Status.TheVariants.{Done, Usage, BadLine, NoStore, NotEmpty, Damaged, DiskFault, SourceFault, OutputFault, OutOfMemory, LogFull, TooLong}
 use Rattle.px_calls.specs.Histories.{state_after_all}
 use Rattle.px_calls.specs.Texts.{opened_line}
-use Rattle.px_script.specs.Lines.{complete_lines, lines_at_end}
 use Rattle.px_told.specs.declared.change.Change.{Change}
 use Rattle.px_told.specs.Commits.{commits_in}
 use Rattle.px_told.specs.Writes.{rows_in}
-use Rattle.px_standing.specs.Settled.{IsSettledStore}
+use Rattle.px_script.specs.Lines.{complete_lines, lines_at_end}
+use Rattle.px_restart.specs.declared.restart.Restart.{Restart}
 use Rattle.px_xlog.specs.Log.{most_frames}
 use Rattle.px_logged.specs.Logged.{logged_by_all}
 use Rattle.px_logged.specs.Recounting.{rows_now}
+use Rattle.px_standing.specs.Settled.{IsSettledStore}
 use Rattle.px_recovery.specs.Opening.{opened_machine}
 use Rattle.px_play.specs.Input.{script_of}
 use Rattle.px_play.specs.Playing.{StopsFull, changes_after, pieces_of, UnlessBroken}

@@ -2,18 +2,18 @@
 use Rattle.std.specs.Prelude.{◌≡◌, ◌⊎◌, ⊤, ℕ, ◌+◌, ◌-◌, ◌<◌, ◌≤◌, List, [], ◌++◌, length, map, take, Result, Ok, Err}
 use Rattle.px_site.specs.State.{State, EachMoment, spoke}
 use Rattle.px_site.specs.Cause.{Counts, Rose}
-use Rattle.px_restart.specs.declared.restart.Restart.{Restart}
 use Rattle.px_model.specs.declared.row.Row.{Row}
 use Rattle.px_calls.specs.declared.status.Status.{Status}
 use Rattle.px_calls.specs.declared.status.Status.TheVariants.{Done, Usage, NoStore, Damaged, OutputFault, OutOfMemory}
 use Rattle.px_calls.specs.Closing.{closing_line}
 use Rattle.px_calls.specs.Texts.{row_line}
-use Rattle.px_script.specs.Lines.{lines_at_end}
 use Rattle.px_told.specs.declared.change.Change.{Change}
-use Rattle.px_standing.specs.Settled.{IsSettledStore}
-use Rattle.px_xlog.specs.Log.{most_frames}
 use Rattle.px_told.specs.Writes.{rows_in}
+use Rattle.px_script.specs.Lines.{lines_at_end}
+use Rattle.px_restart.specs.declared.restart.Restart.{Restart}
+use Rattle.px_xlog.specs.Log.{most_frames}
 use Rattle.px_logged.specs.Logged.{logged_by_all}
+use Rattle.px_standing.specs.Settled.{IsSettledStore}
 use Rattle.px_recovery.specs.Opening.{opened_machine}
 use Rattle.px_play.specs.Input.{script_of}
 use Rattle.px_play.specs.Playing.{UnlessBroken}

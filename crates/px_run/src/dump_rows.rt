@@ -2,18 +2,18 @@
 ghost use Rattle.std.specs.Prelude.{◌≡◌, ℕ, List, None, Some, IfErr};
 ghost use Rattle.px_site.specs.Cause.{NoneFell};
 ghost use Rattle.px_site.specs.State.{EachMoment};
-ghost use Rattle.px_restart.specs.declared.restart.Restart.{Restart};
+ghost use Rattle.px_calls.specs.Texts.{row_line};
 ghost use Rattle.px_told.specs.declared.change.Change.{Change};
-ghost use Rattle.px_standing.specs.Images.{ImagesStandFor};
-ghost use Rattle.px_standing.specs.Settled.{IsSettledStore};
 ghost use Rattle.px_told.specs.Commits.{commits_in};
 ghost use Rattle.px_told.specs.Writes.{rows_in};
+ghost use Rattle.px_restart.specs.declared.restart.Restart.{Restart};
 ghost use Rattle.px_logged.specs.Recounting.{rows_now};
+ghost use Rattle.px_standing.specs.Images.{ImagesStandFor};
+ghost use Rattle.px_standing.specs.Settled.{IsSettledStore};
 ghost use Rattle.px_run.specs.Causes.{HasStatusCause, RefusesBad, ShowsRefusal};
 ghost use Rattle.px_run.specs.Dumping.{ShowsStore};
 ghost use Rattle.px_run.specs.Working.{DumpsRows, HasDumpCause, HasTellCause, OnlyTells, RefusesQuietly, TellsLines, TellsPiece, TellsRows};
 ghost use Rattle.px_run.specs.declared.command.Command.{Command};
-ghost use Rattle.px_calls.specs.Texts.{row_line};
 
 use crate::ended::Ended;
 use crate::telling::tell;

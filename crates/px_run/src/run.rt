@@ -3,11 +3,11 @@ ghost use Rattle.std.specs.Prelude.{◌≡◌, ◌≢◌, ◌≤◌, ℕ, true, 
 ghost use Rattle.px_site.specs.Cause.{NoneFell};
 ghost use Rattle.px_site.specs.State.{EachMoment};
 ghost use Rattle.px_source.specs.Source.{Rose as ReadRose};
-ghost use Rattle.px_restart.specs.declared.restart.Restart.{Restart};
 ghost use Rattle.px_calls.specs.Histories.{FirstCommitterWins};
 ghost use Rattle.px_told.specs.declared.change.Change.{Change};
 ghost use Rattle.px_told.specs.Commits.{commits_in};
 ghost use Rattle.px_told.specs.Writes.{rows_in};
+ghost use Rattle.px_restart.specs.declared.restart.Restart.{Restart};
 ghost use Rattle.px_standing.specs.Images.{CanMake, ImagesAreNew, ImagesStandFor};
 ghost use Rattle.px_standing.specs.Settled.{IsSettledStore};
 ghost use Rattle.px_play.specs.Acknowledged.{KeepsAcknowledged};

@@ -2,8 +2,8 @@
 ghost use Rattle.std.specs.Prelude.{◌≡◌, ◌≤◌, ℕ, List, None, Some};
 ghost use Rattle.px_site.specs.Cause.{NoneFell};
 ghost use Rattle.px_site.specs.State.{EachMoment};
-ghost use Rattle.px_restart.specs.declared.restart.Restart.{Restart};
 ghost use Rattle.px_told.specs.declared.change.Change.{Change};
+ghost use Rattle.px_restart.specs.declared.restart.Restart.{Restart};
 ghost use Rattle.px_standing.specs.Settled.{IsSettledStore};
 ghost use Rattle.px_standing.specs.Stored.{Stored};
 ghost use Rattle.px_recovery.specs.Opening.{opened_machine, report_of};

@@ -1,25 +1,22 @@
 -- What a call that adds to the log owes: what is stored after it, and what stands within it.
-use Rattle.std.proofs.Common.{◌≡◌, ◌≢◌, ◌⊎◌, ℕ, ◌+◌, ◌^◌, ◌≤◌, true, false, List, [], ◌∷◌, ◌++◌, length, take, refl, sym, ap, subst, ◌∙◌, inl, inr, arith, length-append}
+use Rattle.std.proofs.Common.{◌≡◌, ◌≢◌, ◌⊎◌, ℕ, ◌+◌, ◌^◌, ◌≤◌, true, List, [], ◌∷◌, ◌++◌, length, take, sym, ap, subst, ◌∙◌, inl, inr, arith, length-append}
 use Rattle.std.proofs.lemmas.List.{append-nil, take_all, take-append-le}
-use Rattle.px_site.specs.declared.name.FileName.{FileName}
-use Rattle.px_site.specs.Names.{same_file}
 use Rattle.px_site.specs.Disk.{FileState}
 use Rattle.px_site.specs.State.{State, Moment, EachMoment, OnFile}
-use Rattle.px_site.proofs.Moments.{same_moment, then_moments, weaker_moments}
-use Rattle.px_restart.specs.declared.restart.Restart.{Restart}
+use Rattle.px_site.proofs.Moments.{then_moments, weaker_moments}
 use Rattle.px_model.specs.Machine.{Machine, commits}
 use Rattle.px_calls.specs.declared.call.Call.{Call}
 use Rattle.px_calls.specs.declared.call.Call.TheVariants.{Commit}
 use Rattle.px_calls.specs.Steps.{state_after}
 use Rattle.px_told.specs.declared.change.Change.{Change}
+use Rattle.px_told.specs.Commits.{CountsFrom, commits_in}
+use Rattle.px_restart.specs.declared.restart.Restart.{Restart}
 use Rattle.px_xlog.specs.Payload.{may_hold, may_hold_all}
 use Rattle.px_xlog.specs.Contents.{the_log}
-use Rattle.px_told.specs.Commits.{CountsFrom, commits_in}
 use Rattle.px_xlog.specs.Log.{Log, IsLogOf, HasFirst, with_frame}
 use Rattle.px_xlog.proofs.FramesOfChanges.{hold_more}
-use Rattle.px_logged.specs.Growing.{KeepsCommitted}
 use Rattle.px_logged.specs.Logged.{logged}
-use Rattle.px_logged.specs.Recounting.{Recounts, rows_now}
+use Rattle.px_logged.specs.Recounting.{Recounts}
 use Rattle.px_logged.proofs.Numbered.{counts_more}
 use Rattle.px_logged.proofs.Grown.{others_keep_committed}
 use Rattle.px_logged.proofs.Recounted.{call_recounts}

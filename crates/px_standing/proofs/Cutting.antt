@@ -7,14 +7,14 @@ use Rattle.px_site.specs.Names.{same_file}
 use Rattle.px_site.specs.State.{State, Moment, EachMoment, OnFile, with_file}
 use Rattle.px_site.proofs.Files.{same_file_is}
 use Rattle.px_site.proofs.Moments.{weaker_moments}
-use Rattle.px_scan.specs.Scan.{frames_of}
-use Rattle.px_restart.specs.Restart.{IsPicked}
 use Rattle.px_model.specs.declared.row.Row.{Row}
+use Rattle.px_restart.specs.Restart.{IsPicked}
+use Rattle.px_scan.specs.Scan.{frames_of}
+use Rattle.px_xlog.specs.Log.{OnlyGrew, ReadsAsBefore}
+use Rattle.px_xlog.specs.Contents.{the_log}
 use Rattle.px_standing.specs.Images.{IsPlainRestart, IsPlainImage, ImagesStandFor, KeepsStanding}
 use Rattle.px_standing.specs.Settled.{Settled}
-use Rattle.px_xlog.specs.Log.{OnlyGrew, ReadsAsBefore}
 use Rattle.px_standing.specs.Standing.{Files, StandsFor}
-use Rattle.px_xlog.specs.Contents.{the_log}
 
 -- only what the log is read as counts
 stands_alike : (image other : Files) (count : ℕ) (rows : List Row) → other (RestartFile 0) ≡ image (RestartFile 0) → other (RestartFile 1) ≡ image (RestartFile 1) → frames_of (image the_log) 0 ≡ frames_of (other the_log) 0 → StandsFor other count rows → StandsFor image count rows

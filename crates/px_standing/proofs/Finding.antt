@@ -1,7 +1,7 @@
 -- What is found in files: how far its numbers go, and that its log is scanned.
 use Rattle.std.proofs.Common.{◌≡◌, ℕ, ◌-◌, ◌^◌, ◌<◌, true, List}
-use Rattle.px_restart.specs.declared.restart.Restart.{Restart}
 use Rattle.px_told.specs.declared.change.Change.{Change}
+use Rattle.px_restart.specs.declared.restart.Restart.{Restart}
 use Rattle.px_xlog.specs.Contents.{the_log, Scans}
 use Rattle.px_xlog.specs.Payload.{may_hold_all}
 use Rattle.px_logged.proofs.Held.{numbers_within}

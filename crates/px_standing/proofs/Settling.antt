@@ -3,32 +3,31 @@ use Rattle.std.proofs.Common.{◌≡◌, ℕ, ◌+◌, ◌^◌, ◌≤◌, List,
 use Rattle.std.specs.List.{AllByRecursion}
 use Rattle.std.proofs.lemmas.List.{append-nil, drop_at, take_at}
 use Rattle.px_site.specs.declared.name.FileName.TheVariants.{Restart as RestartFile}
-use Rattle.px_site.specs.Disk.{Change as DiskChange, Wrote, FileState, IsImage, overlay, overlaid, at_rest}
+use Rattle.px_site.specs.Disk.{Change as DiskChange, Wrote, FileState, overlay, overlaid, at_rest}
 use Rattle.px_site.specs.State.{State}
-use Rattle.px_frame.specs.Frame.{frame, FrameAt}
+use Rattle.px_model.specs.declared.row.Row.{Row}
+use Rattle.px_model.specs.Machine.{Machine, commits}
+use Rattle.px_told.specs.declared.change.Change.{Change}
+use Rattle.px_told.specs.Commits.{commits_in}
+use Rattle.px_told.specs.Writes.{rows_in}
+use Rattle.px_frame.specs.Frame.{frame}
 use Rattle.px_frame.specs.declared.frame.TheConstants.{HEADER_SIZE}
-use Rattle.px_scan.specs.Scan.{frames, CanFrames}
 use Rattle.px_restart.specs.declared.restart.Restart.{Restart}
 use Rattle.px_restart.specs.declared.restart.TheConstants.{RESTART_SIZE}
 use Rattle.px_restart.specs.declared.text.TheConstants.{VERSION}
 use Rattle.px_restart.specs.Restart.{restart_text}
-use Rattle.px_model.specs.declared.row.Row.{Row}
-use Rattle.px_model.specs.Machine.{Machine, commits}
-use Rattle.px_told.specs.declared.change.Change.{Change}
-use Rattle.px_xlog.specs.Payload.{change_text, may_hold_all}
-use Rattle.px_standing.specs.Standing.{Files, first_restart, second_restart, StandsFor}
+use Rattle.px_scan.specs.Scan.{frames}
+use Rattle.px_xlog.specs.Payload.{change_text}
 use Rattle.px_xlog.specs.Contents.{the_log, log_text}
-use Rattle.px_told.specs.Commits.{commits_in}
-use Rattle.px_told.specs.Writes.{rows_in}
 use Rattle.px_xlog.specs.Written.{HasAt, IsBehind, IsPlainLog}
-use Rattle.px_standing.specs.Images.{IsPlainRestart, IsPlainImage}
-use Rattle.px_standing.specs.Settled.{Settled, IsSettledStore}
-use Rattle.px_xlog.specs.Log.{Log, HasFirst, IsLogOf, appended, grown_file}
+use Rattle.px_xlog.specs.Log.{Log, HasFirst, appended, grown_file}
 use Rattle.px_xlog.proofs.Appending.{appended_behind, log_parts, first_survive}
 use Rattle.px_xlog.proofs.FramesOfChanges.{can_frames}
 use Rattle.px_xlog.proofs.Growing.{overlay_end}
-use Rattle.px_logged.specs.Recounting.{Recounts, rows_now}
-use Rattle.px_standing.specs.Stored.{RestartsRest, Stored, ReadsImages}
+use Rattle.px_standing.specs.Standing.{Files, StandsFor}
+use Rattle.px_standing.specs.Images.{IsPlainRestart, IsPlainImage}
+use Rattle.px_standing.specs.Settled.{IsSettledStore}
+use Rattle.px_standing.specs.Stored.{Stored, ReadsImages}
 use Rattle.px_standing.proofs.Standing.{IsGrowing, image_stands}
 
 -- ---- what is read is plain

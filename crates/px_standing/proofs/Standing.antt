@@ -1,5 +1,5 @@
 -- What a crash leaves of a log to which a call of the core appends.
-use Rattle.std.proofs.Common.{◌≡◌, ◌⊎◌, ℕ, suc, zero, ◌+◌, ◌-◌, ◌^◌, ◌<◌, ◌≤◌, true, false, ◌&&◌, List, [], ◌∷◌, ◌++◌, length, map, take, refl, sym, ap, subst, ◌∙◌, inl, inr, arith, length-append, length-take}
+use Rattle.std.proofs.Common.{◌≡◌, ◌⊎◌, ℕ, suc, zero, ◌+◌, ◌-◌, ◌^◌, ◌≤◌, true, false, List, [], ◌∷◌, ◌++◌, length, map, take, refl, sym, ap, subst, ◌∙◌, inl, inr, arith, length-append, length-take}
 use Rattle.std.specs.List.{AllByRecursion}
 use Rattle.std.proofs.lemmas.Bool.{and_parts, and_from, cases_lt}
 use Rattle.std.proofs.lemmas.List.{take_all, take-append-le}
@@ -8,31 +8,29 @@ use Rattle.px_site.specs.declared.name.FileName.TheVariants.{Restart as RestartF
 use Rattle.px_site.specs.Names.{same_file}
 use Rattle.px_site.specs.Disk.{FileState, IsImage, at_rest}
 use Rattle.px_site.specs.State.{State, Moment, history, EachMoment, OnFile}
-use Rattle.px_scan.specs.Scan.{frames_of}
-use Rattle.px_scan.proofs.Scans.{frames_of-frames}
-use Rattle.px_restart.specs.declared.restart.Restart.{Restart}
-use Rattle.px_restart.specs.Restart.{IsPicked}
 use Rattle.px_model.specs.declared.row.Row.{Row}
 use Rattle.px_model.specs.Machine.{Machine, commits, published}
 use Rattle.px_calls.specs.declared.call.Call.{Call}
 use Rattle.px_calls.specs.declared.call.Call.TheVariants.{Commit}
 use Rattle.px_calls.specs.Steps.{state_after}
 use Rattle.px_told.specs.declared.change.Change.{Change}
-use Rattle.px_xlog.specs.Payload.{change_text, may_hold, may_hold_all}
-use Rattle.px_standing.specs.Standing.{Files, first_restart, second_restart, Finds, StandsFor}
-use Rattle.px_xlog.specs.Contents.{the_log, log_text}
-use Rattle.px_told.specs.Commits.{CountsFrom, commits_in}
+use Rattle.px_told.specs.Commits.{CountsFrom, commits_in, HasAll}
 use Rattle.px_told.specs.Writes.{rows_in}
-use Rattle.px_standing.specs.Images.{IsPlainImage}
+use Rattle.px_told.proofs.Commits.{kept_has_all}
+use Rattle.px_restart.specs.declared.restart.Restart.{Restart}
+use Rattle.px_restart.specs.Restart.{IsPicked}
+use Rattle.px_scan.specs.Scan.{frames_of}
+use Rattle.px_scan.proofs.Scans.{frames_of-frames}
+use Rattle.px_xlog.specs.Payload.{change_text, may_hold, may_hold_all}
+use Rattle.px_xlog.specs.Contents.{the_log, log_text}
 use Rattle.px_xlog.specs.Log.{Log, IsLogOf, HasFirst}
 use Rattle.px_xlog.proofs.AtRest.{image_of_rest}
 use Rattle.px_xlog.proofs.FramesOfChanges.{can_frames}
-use Rattle.px_told.specs.Commits.{HasAll}
 use Rattle.px_logged.specs.Recounting.{Recounts, rows_now}
 use Rattle.px_logged.proofs.Grown.{opening_stays, commits_rise, published_stays}
-use Rattle.px_told.proofs.Commits.{kept_has_all}
+use Rattle.px_standing.specs.Standing.{Files, first_restart, second_restart, Finds, StandsFor}
+use Rattle.px_standing.specs.Images.{IsPlainImage, acked, HasCommitted, HasBetween, StandsBetween}
 use Rattle.px_standing.specs.Stored.{RestartsRest, Stored, ReadsImages}
-use Rattle.px_standing.specs.Images.{acked, HasCommitted, HasBetween, StandsBetween}
 
 -- ---- one image
 

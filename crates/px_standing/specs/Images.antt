@@ -6,11 +6,11 @@ use Rattle.px_site.specs.declared.name.FileName.{FileName}
 use Rattle.px_site.specs.Names.{same_file}
 use Rattle.px_site.specs.Disk.{FileState, IsImage, at_rest}
 use Rattle.px_site.specs.State.{State, Moment}
+use Rattle.px_model.specs.declared.row.Row.{Row}
+use Rattle.px_model.specs.Machine.{Machine, commits, published}
 use Rattle.px_restart.specs.declared.restart.Restart.{Restart}
 use Rattle.px_restart.specs.Restart.{RestartAt, restart_text}
 use Rattle.px_restart.specs.declared.text.TheConstants.{VERSION}
-use Rattle.px_model.specs.declared.row.Row.{Row}
-use Rattle.px_model.specs.Machine.{Machine, commits, published}
 use Rattle.px_xlog.specs.Contents.{the_log}
 use Rattle.px_xlog.specs.Written.{WasWritten, IsPlainLog}
 use Rattle.px_logged.specs.Recounting.{rows_now}
@@ -39,7 +39,7 @@ pub record KeepsStanding (commits : ℕ) (rows : List Row) (before m : Moment) :
 
 -- ---- while a machine works on the store
 
--- how many commits were acknowledged by the machine
+-- how many commits the machine has acknowledged: each that it made
 abbrev pub acked : Machine → ℕ
 acked m = commits m
 

@@ -2,11 +2,11 @@
 use Rattle.std.specs.Prelude.{ℕ, List}
 use Rattle.std.specs.List.{AllByRecursion}
 use Rattle.px_site.specs.State.{State}
-use Rattle.px_restart.specs.declared.restart.Restart.{Restart}
 use Rattle.px_model.specs.declared.row.Row.{Row}
 use Rattle.px_told.specs.declared.change.Change.{Change}
 use Rattle.px_told.specs.Commits.{commits_in}
 use Rattle.px_told.specs.Writes.{rows_in}
+use Rattle.px_restart.specs.declared.restart.Restart.{Restart}
 use Rattle.px_xlog.specs.Contents.{the_log}
 use Rattle.px_xlog.specs.Written.{IsBehind}
 use Rattle.px_standing.specs.Images.{IsPlainImage, ImagesStandFor}

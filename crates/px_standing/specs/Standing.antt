@@ -2,14 +2,14 @@
 use Rattle.std.specs.Prelude.{◌≡◌, ℕ, ◌-◌, ◌≤◌, true, List, length, map}
 use Rattle.px_site.specs.declared.name.FileName.{FileName}
 use Rattle.px_site.specs.declared.name.FileName.TheVariants.{Restart as RestartFile}
-use Rattle.px_restart.specs.declared.restart.Restart.{Restart}
-use Rattle.px_restart.specs.Restart.{RestartAt, IsPicked}
-use Rattle.px_scan.specs.Scan.{frames_of}
 use Rattle.px_model.specs.declared.row.Row.{Row}
 use Rattle.px_told.specs.declared.change.Change.{Change}
 use Rattle.px_told.specs.Changes.{greatest_stored}
 use Rattle.px_told.specs.Commits.{CountsFrom, commits_in}
 use Rattle.px_told.specs.Writes.{rows_in}
+use Rattle.px_restart.specs.declared.restart.Restart.{Restart}
+use Rattle.px_restart.specs.Restart.{RestartAt, IsPicked}
+use Rattle.px_scan.specs.Scan.{frames_of}
 use Rattle.px_xlog.specs.Contents.{the_log}
 use Rattle.px_xlog.specs.Payload.{change_text, may_hold_all}
 

@@ -4,10 +4,10 @@ use Rattle.px_site.specs.declared.name.FileName.{FileName}
 use Rattle.px_site.specs.declared.name.FileName.TheVariants.{Restart as RestartFile}
 use Rattle.px_site.specs.Disk.{IsImage, at_rest}
 use Rattle.px_site.specs.State.{State, Moment}
-use Rattle.px_restart.specs.declared.restart.Restart.{Restart}
 use Rattle.px_model.specs.Machine.{Machine, commits}
 use Rattle.px_told.specs.declared.change.Change.{Change}
 use Rattle.px_told.specs.Commits.{commits_in}
+use Rattle.px_restart.specs.declared.restart.Restart.{Restart}
 use Rattle.px_xlog.specs.Log.{Log, IsLogOf}
 use Rattle.px_logged.specs.Recounting.{Recounts}
 use Rattle.px_standing.specs.Settled.{IsSettledStore}

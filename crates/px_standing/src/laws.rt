@@ -1,10 +1,10 @@
 //! What files stand for in a small example, and what holds of a site that has all of a machine.
 
 ghost use Rattle.std.specs.Prelude.{◌≡◌, [], ◌∷◌, ◌++◌, map, true};
-ghost use Rattle.px_frame.specs.Frame.{frame};
-ghost use Rattle.px_scan.specs.Scan.{frames_of};
 ghost use Rattle.px_told.specs.Commits.{commits_in};
 ghost use Rattle.px_told.specs.Writes.{rows_in};
+ghost use Rattle.px_frame.specs.Frame.{frame};
+ghost use Rattle.px_scan.specs.Scan.{frames_of};
 ghost use Rattle.px_xlog.specs.Contents.{log_text};
 ghost use Rattle.px_xlog.specs.Examples.{aa};
 ghost use Rattle.px_xlog.specs.Payload.{change_text, may_hold_all};

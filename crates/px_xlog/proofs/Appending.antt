@@ -3,13 +3,13 @@ use Rattle.std.proofs.Common.{◌≡◌, ℕ, zero, suc, ◌+◌, ◌<◌, ◌�
 use Rattle.std.specs.List.{AllByRecursion}
 use Rattle.std.proofs.lemmas.List.{append-nil, take_all, drop_all, take-append-drop, take-append-le, drop-append-le}
 use Rattle.px_site.specs.Disk.{Change as DiskChange, Wrote, FileState, IsImage, at_rest, pending_more, overlaid}
+use Rattle.px_told.specs.declared.change.Change.{Change}
 use Rattle.px_frame.specs.Frame.{frame, FrameAt}
 use Rattle.px_frame.proofs.Frames.{length-frame}
 use Rattle.px_scan.specs.Scan.{frames, frames_of, CanFrames}
 use Rattle.px_scan.specs.Crash.{written, appends, IsPlainSince}
 use Rattle.px_scan.proofs.Recovery.{Agrees, Recovers, survives}
 use Rattle.px_scan.proofs.Written.{frames-append, frames-split, written-front}
-use Rattle.px_told.specs.declared.change.Change.{Change}
 use Rattle.px_xlog.specs.Payload.{change_text}
 use Rattle.px_xlog.specs.Contents.{log_text}
 use Rattle.px_xlog.specs.Written.{HasAt, IsPlainLog, IsBehind}

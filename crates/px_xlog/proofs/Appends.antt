@@ -5,9 +5,9 @@ use Rattle.px_site.specs.Disk.{Wrote, at_rest, pending_more, overlay}
 use Rattle.px_site.specs.State.{State, EachMoment, OnFile, Changes, Syncs}
 use Rattle.px_site.specs.declared.error.SiteError.{SiteError}
 use Rattle.px_site.proofs.Files.{stands, stands_changed, change_on_file, sync_on_file}
+use Rattle.px_told.specs.declared.change.Change.{Change}
 use Rattle.px_frame.specs.Frame.{frame}
 use Rattle.px_scan.specs.Scan.{CanFrames}
-use Rattle.px_told.specs.declared.change.Change.{Change}
 use Rattle.px_xlog.specs.Payload.{change_text, may_hold, may_hold_all}
 use Rattle.px_xlog.specs.Contents.{the_log, log_text}
 use Rattle.px_xlog.specs.Window.{longest_frame}

@@ -8,12 +8,12 @@ use Rattle.px_site.specs.Disk.{Cut, FileState, IsImage, at_rest}
 use Rattle.px_site.specs.State.{State, EachMoment, OnFile, Changes, Syncs, Stands}
 use Rattle.px_site.proofs.Files.{stands, stands_changed, stands_synced, change_on_file, sync_on_file}
 use Rattle.px_site.proofs.Moments.{then_moments, weaker_moments}
+use Rattle.px_told.specs.declared.change.Change.{Change}
 use Rattle.px_scan.proofs.Scans.{is_scan, frames_of-frames}
 use Rattle.px_scan.specs.Scan.{frames, frames_of}
 use Rattle.px_xlog.specs.Log.{IsCutting, OnlyGrew, ReadsAsBefore}
 use Rattle.px_xlog.specs.Contents.{the_log, log_text}
 use Rattle.px_xlog.specs.Scanning.{ScansTo}
-use Rattle.px_told.specs.declared.change.Change.{Change}
 use Rattle.px_xlog.proofs.AtRest.{image_of_rest}
 use Rattle.px_xlog.proofs.Cuts.{IsCut, cut_reads}
 

@@ -2,18 +2,18 @@
 use Rattle.std.proofs.Common.{◌≡◌, ℕ, suc, ◌+◌, ◌-◌, ◌^◌, ◌<◌, ◌≤◌, true, leb, ltb, List, [], ◌∷◌, ◌++◌, length, map, refl, ap, subst, ◌∙◌, arith}
 use Rattle.std.proofs.lemmas.Bool.{and_parts, and_from, leb-true}
 use Rattle.std.proofs.lemmas.List.{append-nil}
+use Rattle.px_model.specs.declared.write.Write.{Write}
+use Rattle.px_model.specs.declared.write.Write.TheVariants.{Put as PutRow, Delete}
+use Rattle.px_model.specs.declared.limits.TheConstants.{LONGEST_KEY}
+use Rattle.px_told.specs.declared.change.Change.{Change}
+use Rattle.px_told.specs.declared.change.Change.TheVariants.{Put, Commit, Rollback}
 use Rattle.px_bytes.specs.declared.limits.TheConstants.{SHORTEST_PAYLOAD, LONGEST_PAYLOAD}
 use Rattle.px_frame.specs.Frame.{frame, CanFrame}
 use Rattle.px_frame.proofs.Frames.{length-frame}
 use Rattle.px_scan.specs.Scan.{frames, CanFrames}
 use Rattle.px_scan.proofs.Written.{frames-append}
-use Rattle.px_model.specs.declared.write.Write.{Write}
-use Rattle.px_model.specs.declared.write.Write.TheVariants.{Put as PutRow, Delete}
-use Rattle.px_told.specs.declared.change.Change.{Change}
-use Rattle.px_told.specs.declared.change.Change.TheVariants.{Put, Commit, Rollback}
 use Rattle.px_xlog.specs.Payload.{write_text, change_text, is_stored, is_place, is_write, is_change, is_within, may_hold, may_hold_all}
 use Rattle.px_xlog.specs.declared.payload.TheConstants.{LONGEST_KEY_AND_BODY}
-use Rattle.px_model.specs.declared.limits.TheConstants.{LONGEST_KEY}
 use Rattle.px_xlog.specs.Window.{longest_frame}
 use Rattle.px_xlog.specs.Contents.{log_text}
 use Rattle.px_xlog.proofs.Payloads.{length-head}

@@ -5,8 +5,8 @@ use Rattle.px_frame.proofs.Frames.{payload_at-again, payload_at-none}
 use Rattle.px_scan.specs.Scan.{frames, frames_of}
 use Rattle.px_scan.proofs.Loop.{IsScanning, scan_begins, scan_goes_on, scan_ends}
 use Rattle.std.proofs.lemmas.List.{drop_at}
-use Rattle.px_scan.proofs.Scans.{is_scan, frames_of-step}
 use Rattle.px_told.specs.declared.change.Change.{Change}
+use Rattle.px_scan.proofs.Scans.{is_scan, frames_of-step}
 use Rattle.px_xlog.specs.Payload.{change_text, may_hold, may_hold_all}
 use Rattle.px_xlog.specs.Contents.{log_text, HoldsNone}
 use Rattle.px_xlog.specs.Scanning.{IsForeign, IsNext, HasForeign, FindsForeign, FindsDamage, ScansTo}

@@ -3,10 +3,10 @@ use Rattle.std.proofs.Common.{◌≡◌, ℕ, ◌+◌, ◌^◌, ◌<◌, ◌≤�
 use Rattle.std.proofs.lemmas.Bool.{and_from, lt-ltb, le-leb}
 use Rattle.px_model.specs.declared.row.Row.{Row}
 use Rattle.px_model.specs.declared.write.Write.TheVariants.{Put as PutRow, Delete}
+use Rattle.px_model.specs.declared.limits.TheConstants.{LONGEST_KEY}
 use Rattle.px_told.specs.declared.change.Change.TheVariants.{Put, Commit, Rollback}
 use Rattle.px_xlog.specs.Payload.{is_stored, is_place, is_write, is_change, may_hold}
 use Rattle.px_xlog.specs.declared.payload.TheConstants.{LONGEST_KEY_AND_BODY}
-use Rattle.px_model.specs.declared.limits.TheConstants.{LONGEST_KEY}
 
 stored : (xn : ℕ) → 1 ≤ xn → xn < 2 ^ 62 → is_stored xn ≡ true
 stored xn from to = and_from (leb 1 xn) (ltb xn (2 ^ 62)) (le-leb 1 xn from) (lt-ltb xn (2 ^ 62) to)

@@ -3,11 +3,11 @@ use Rattle.std.proofs.Common.{◌≡◌, ℕ, ◌+◌, ◌^◌, ◌<◌, ◌≤�
 use Rattle.std.specs.Int.{w16, w32, to_be_bytes}
 use Rattle.std.proofs.lemmas.Bool.{and_parts, and_from, ltb-true, lt-ltb, leb-true, le-leb}
 use Rattle.std.proofs.lemmas.List.{take_at, drop_at}
-use Rattle.px_bytes.proofs.Numbers.{one_u32}
 use Rattle.px_model.specs.declared.row.Row.{Row}
 use Rattle.px_model.specs.declared.write.Write.{Write}
 use Rattle.px_model.specs.declared.write.Write.TheVariants.{Put as PutRow, Delete}
 use Rattle.px_model.specs.declared.limits.TheConstants.{LONGEST_KEY}
+use Rattle.px_bytes.proofs.Numbers.{one_u32}
 use Rattle.px_xlog.specs.Fields.{IsRow, IsDeletion, IsCells, HoldsWrite}
 use Rattle.px_xlog.specs.Payload.{write_cells, write_text, is_place, is_write}
 use Rattle.px_xlog.specs.declared.payload.TheConstants.{LONGEST_KEY_AND_BODY}

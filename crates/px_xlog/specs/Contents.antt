@@ -2,9 +2,9 @@
 use Rattle.std.specs.Prelude.{◌≡◌, ◌≢◌, ◌⊎◌, ℕ, ◌<◌, ◌≤◌, true, List, ◌∷◌, ◌++◌, length, map}
 use Rattle.px_site.specs.declared.name.FileName.{FileName}
 use Rattle.px_site.specs.declared.name.FileName.TheVariants.{Xlog}
+use Rattle.px_told.specs.declared.change.Change.{Change}
 use Rattle.px_restart.specs.declared.restart.Restart.{Restart}
 use Rattle.px_scan.specs.Scan.{frames, frames_of}
-use Rattle.px_told.specs.declared.change.Change.{Change}
 use Rattle.px_xlog.specs.Payload.{change_text, may_hold, may_hold_all}
 
 -- until there are segments, the log is one file, and its frames are numbered from 0

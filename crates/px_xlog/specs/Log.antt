@@ -1,13 +1,12 @@
 -- The log as its owner keeps it, and its file at every moment.
-use Rattle.std.specs.Prelude.{◌≡◌, ◌⊎◌, ℕ, ◌+◌, ◌-◌, ◌≤◌, Bool, true, false, nat_lt, List, [], ◌∷◌, length, map, take, drop, Option, Some, None, if◌then◌else◌}
+use Rattle.std.specs.Prelude.{◌≡◌, ◌⊎◌, ℕ, ◌+◌, ◌-◌, ◌≤◌, true, nat_lt, List, [], ◌∷◌, length, map, take, drop, Option, Some, None, if◌then◌else◌}
 use Rattle.std.specs.List.{AllByRecursion}
 use Rattle.px_site.specs.Disk.{Change as DiskChange, Wrote, Cut, FileState, IsImage, pending_more, at_rest}
 use Rattle.px_site.specs.State.{State}
+use Rattle.px_told.specs.declared.change.Change.{Change}
+use Rattle.px_told.specs.Changes.{is_end}
 use Rattle.px_frame.specs.Frame.{frame}
 use Rattle.px_scan.specs.Scan.{frames_of}
-use Rattle.px_told.specs.declared.change.Change.{Change}
-use Rattle.px_told.specs.declared.change.Change.TheVariants.{Put, Commit, Rollback}
-use Rattle.px_told.specs.Changes.{is_end}
 use Rattle.px_xlog.specs.declared.place.TheConstants.{MOST_FRAMES}
 use Rattle.px_xlog.specs.Payload.{change_text, may_hold_all}
 use Rattle.px_xlog.specs.Contents.{the_log, log_text}

@@ -1,8 +1,8 @@
 -- How the log is read: change by change, from its first frame on.
 use Rattle.std.specs.Prelude.{◌≡◌, ◌≢◌, ℕ, ◌+◌, true, List, ◌++◌, length, map, drop}
+use Rattle.px_told.specs.declared.change.Change.{Change}
 use Rattle.px_frame.specs.Frame.{FrameAt}
 use Rattle.px_scan.specs.Scan.{frames_of}
-use Rattle.px_told.specs.declared.change.Change.{Change}
 use Rattle.px_xlog.specs.declared.error.LogOpenError.{LogOpenError}
 use Rattle.px_xlog.specs.declared.error.LogOpenError.TheVariants.{OutOfMemory, Fault as FaultOf, Damaged}
 use Rattle.px_xlog.specs.Payload.{change_text, may_hold}

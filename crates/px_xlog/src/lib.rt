@@ -1,4 +1,4 @@
-//! The transaction log: its bytes, its frames and their payloads. What these stand for in rows is said elsewhere.
+//! The transaction log: its bytes, its frames and their payloads. What these stand for in rows is px_standing's.
 //!
 //! Seen from above, an `Xlog` is the list of the appended changes, of which the first `durable` are synced. `IsLogOf`
 //! says so of a site, and the clauses `moments` say what a crash at any moment of a call leaves (docs/LOG.md).

@@ -1,13 +1,13 @@
 ghost use Rattle.std.specs.Prelude.{◌≡◌, ℕ, ◌-◌, ◌*◌, ◌^◌, ◌≤◌, true, if◌then◌else◌, List, [], ◌∷◌, ◌++◌, Some, IfOk, IfErr, IsErrOf, OnOk, OnErr};
 ghost use Rattle.px_site.specs.Cause.{HasCause, IsOwn, NoneFell, Rose};
 ghost use Rattle.px_site.specs.State.{EachMoment, OnFile, OnShort};
+ghost use Rattle.px_told.specs.Changes.{is_end};
+ghost use Rattle.px_told.specs.declared.change.Change.{Change};
 ghost use Rattle.px_xlog.specs.Errors.{HasLogCause, IsFaultOf, LeavesUntouched, OnShortage};
 ghost use Rattle.px_xlog.specs.Log.{HasFirst, IsLogOf, full_at, with_frame};
-ghost use Rattle.px_told.specs.Changes.{is_end};
 ghost use Rattle.px_xlog.specs.Payload.{may_hold};
 ghost use Rattle.px_xlog.specs.Contents.{the_log};
 ghost use Rattle.px_xlog.specs.Window.{longest_frame};
-ghost use Rattle.px_told.specs.declared.change.Change.{Change};
 
 use crate::LogError;
 use crate::frame_buffer::FrameBuffer;

@@ -2,8 +2,8 @@ ghost use Rattle.std.specs.Prelude.{◌≡◌, ℕ, List, [], ◌∷◌, ◌++�
 ghost use Rattle.px_site.specs.Cause.{NoneFell};
 ghost use Rattle.px_model.specs.declared.write.Write.{Write};
 ghost use Rattle.px_machine_laws.specs.Writers.{writer_of, last_write_of};
-ghost use Rattle.px_xlog.specs.Payload.{may_hold};
 ghost use Rattle.px_told.specs.declared.change.Change.{Change};
+ghost use Rattle.px_xlog.specs.Payload.{may_hold};
 ghost use Rattle.px_core.specs.Appending.{Appends, AppendFails, Flushes, FlushFails, LeavesFronts, MayPut};
 
 use super::Core;

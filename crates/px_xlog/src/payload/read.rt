@@ -1,8 +1,8 @@
 ghost use Rattle.std.specs.Prelude.{◌≡◌, ◌≢◌, ℕ, ◌+◌, ◌<◌, ◌^◌, ◌↔◌, true, List, [], ◌∷◌, ◌++◌, length, IsTrue, IfSome, IfNone, IfOk};
 ghost use Rattle.px_model.specs.declared.write.Write.{Write};
+ghost use Rattle.px_told.specs.declared.change.Change.{Change};
 ghost use Rattle.px_xlog.specs.Fields.{HoldsWrite, IsCells, IsDeletion, IsEnd, IsHead, IsLengths, IsRow, ends};
 ghost use Rattle.px_xlog.specs.Payload.{HoldsChange, head, is_place, is_stored};
-ghost use Rattle.px_told.specs.declared.change.Change.{Change};
 
 use super::{
     FIRST_NUMBER, KIND_COMMIT, KIND_PUT, KIND_ROLLBACK, LONGEST_KEY_AND_BODY, NO_WRITE,

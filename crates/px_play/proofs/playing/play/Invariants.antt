@@ -1,7 +1,7 @@
 use Rattle.std.proofs.Common.{◌≡◌, ◌≤◌, ℕ, List, None}
 use Rattle.px_site.specs.Cause.{NoneFell}
-use Rattle.px_restart.specs.declared.restart.Restart.{Restart}
 use Rattle.px_told.specs.declared.change.Change.{Change}
+use Rattle.px_restart.specs.declared.restart.Restart.{Restart}
 use Rattle.px_standing.specs.Stored.{Stored}
 use Rattle.px_play.specs.Input.{script_of}
 use Rattle.px_play.specs.Reading.{IsRead}

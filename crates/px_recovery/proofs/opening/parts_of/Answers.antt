@@ -1,6 +1,6 @@
 use Rattle.std.proofs.Common.{arith}
-use Rattle.px_standing.proofs.Finding.{base_within}
 use Rattle.px_logged.proofs.Held.{commits_within}
+use Rattle.px_standing.proofs.Finding.{base_within}
 use Rattle.px_recovery.proofs.Found.{opened_fits, opened_with}
 use Rattle.px_recovery.proofs.opening.parts_of.Goals as goal
 

@@ -1,9 +1,9 @@
 use Rattle.std.proofs.Common.{sym, subst}
 use Rattle.px_site.specs.State.{EachMoment}
-use Rattle.px_logged.specs.Recounting.{rows_now}
-use Rattle.px_standing.specs.Images.{ImagesStandFor}
 use Rattle.px_told.specs.Commits.{commits_in}
 use Rattle.px_told.specs.Writes.{rows_in}
+use Rattle.px_logged.specs.Recounting.{rows_now}
+use Rattle.px_standing.specs.Images.{ImagesStandFor}
 use Rattle.px_run.specs.Working.{DumpsRows}
 use Rattle.px_run.proofs.Dumped.{dumped, dumping_moments, opening_moments, undumped}
 use Rattle.px_run.proofs.Opening.{opened_rows, opened_whole, opens_this, settles}

@@ -1,21 +1,21 @@
 use Rattle.std.proofs.Common.{refl}
 use Rattle.std.specs.Fmt.{digits}
 use Rattle.hex.specs.Hex.{encode_with, decode_pairs}
+use Rattle.px_model.specs.Rows.{key_cmp, same_key}
+use Rattle.px_model.specs.Machine.{fresh, commits, view, published}
+use Rattle.px_calls.specs.Texts.{reply_text, opened_line}
+use Rattle.px_calls.specs.Steps.{begins_spent, has_table, fits_key, longest_body, fits_body, conflict_of, write_refusal, is_full, reply_of, state_when_done, state_after}
+use Rattle.px_told.specs.Commits.{commits_in}
+use Rattle.px_told.specs.Writes.{rows_in}
 use Rattle.px_script.specs.Words.{number_of, bytes_of, body_of}
 use Rattle.px_script.specs.Grammar.{line_of, command_line, calls_of}
 use Rattle.px_script.specs.Lines.{complete_lines, open_line}
+use Rattle.px_logged.specs.Logged.{logged}
+use Rattle.px_standing.specs.Standing.{base_after}
 use Rattle.px_play.specs.Input.{script_of}
 use Rattle.px_play.specs.Playing.{pieces_of}
 use Rattle.px_play.specs.Acknowledged.{acknowledged}
 use Rattle.px_run.specs.Running.{run_pieces}
-use Rattle.px_calls.specs.Texts.{reply_text, opened_line}
-use Rattle.px_standing.specs.Standing.{base_after}
-use Rattle.px_told.specs.Commits.{commits_in}
-use Rattle.px_told.specs.Writes.{rows_in}
-use Rattle.px_logged.specs.Logged.{logged}
-use Rattle.px_model.specs.Rows.{key_cmp, same_key}
-use Rattle.px_model.specs.Machine.{fresh, commits, view, published}
-use Rattle.px_calls.specs.Steps.{begins_spent, has_table, fits_key, longest_body, fits_body, conflict_of, write_refusal, is_full, reply_of, state_when_done, state_after}
 use Rattle.px_run.proofs.laws.a_small_run.Goals as goal
 
 pub returns-clause-told : goal.returns-clause-told

@@ -1,9 +1,9 @@
 use Rattle.std.proofs.Common.{subst, sym}
-use Rattle.px_play.specs.Acknowledged.{KeepsAcknowledged}
-use Rattle.px_play.specs.Input.{script_of}
 use Rattle.px_site.specs.State.{EachMoment}
 use Rattle.px_told.specs.Commits.{commits_in}
 use Rattle.px_told.specs.Writes.{rows_in}
+use Rattle.px_play.specs.Acknowledged.{KeepsAcknowledged}
+use Rattle.px_play.specs.Input.{script_of}
 use Rattle.px_run.specs.Running.{machine_after}
 use Rattle.px_run.specs.Working.{RunsScript}
 use Rattle.px_run.proofs.Opening.{opened_whole, opens_this, settled_shows}

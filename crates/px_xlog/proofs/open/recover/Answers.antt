@@ -1,7 +1,7 @@
 use Rattle.std.proofs.Common.{inr}
 use Rattle.std.proofs.lemmas.Result.{err_from_is_err_and}
-use Rattle.px_xlog.specs.Contents.{the_log}
 use Rattle.px_site.specs.State.{State}
+use Rattle.px_xlog.specs.Contents.{the_log}
 use Rattle.px_xlog.specs.Log.{IsCutting}
 use Rattle.px_xlog.proofs.CutMoments.{alone_moments, opening_moments}
 use Rattle.px_xlog.proofs.Refusals.{leaves_same, stops_short}

@@ -2,13 +2,12 @@ use Rattle.std.proofs.Common.{◌≡◌, ℕ, ◌+◌, ◌^◌, ◌<◌, ◌≤�
 use Rattle.std.proofs.lemmas.Result.{err_from_is_err_and}
 use Rattle.px_site.specs.State.{State}
 use Rattle.px_site.proofs.Causes.{then_none_fell, no_fall}
-use Rattle.px_frame.specs.Frame.{payload_at}
 use Rattle.px_told.specs.declared.change.Change.{Change}
-use Rattle.px_xlog.specs.Window.{longest_frame}
+use Rattle.px_frame.specs.Frame.{payload_at}
+use Rattle.px_xlog.specs.Window.{longest_frame, Sees}
 use Rattle.px_xlog.specs.Payload.{may_hold_all}
 use Rattle.px_xlog.specs.Contents.{the_log}
 use Rattle.px_xlog.specs.Scanning.{FindsForeign, IsNext}
-use Rattle.px_xlog.specs.Window.{Sees}
 use Rattle.px_xlog.proofs.LogReading.{IsReading, reading_begins, reading_goes_on, held_goes_on, reading_ends, damage_found}
 use Rattle.px_xlog.proofs.reader.read_log.Goals as goal
 

@@ -1,7 +1,7 @@
 use Rattle.std.proofs.Common.{◌≡◌, ℕ, ◌+◌, ◌-◌, ◌*◌, ◌^◌, ◌<◌, ◌≤◌, [], ◌∷◌, ◌++◌, length, if◌then◌else◌, sym, ap, subst, ◌∙◌, arith}
+use Rattle.px_told.specs.Changes.{is_end}
 use Rattle.px_xlog.specs.Window.{longest_frame}
 use Rattle.px_xlog.specs.Log.{Log, IsLogOf, with_frame}
-use Rattle.px_told.specs.Changes.{is_end}
 use Rattle.px_xlog.proofs.FramesOfChanges.{may_be_written}
 use Rattle.px_xlog.proofs.Appends.{may_append, short_frame, append_moments, append_logged}
 use Rattle.px_xlog.proofs.xlog.Xlog.append.Goals as goal
