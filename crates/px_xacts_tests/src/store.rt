@@ -1,5 +1,5 @@
 ghost use Rattle.std.specs.Prelude.{◌≡◌, ◌≤◌, ◌<◌, ◌^◌, length, IsSomeAnd};
-ghost use Rattle.px_model.specs.declared.limits.TheConstants.{MOST_WRITES, SESSIONS};
+ghost use Rattle.px_model.specs.declared.limits.TheConstants.{MOST_WRITES};
 ghost use Rattle.px_xacts.specs.Transactions.{open_of};
 
 use px_model::{Bytes, Session};
@@ -16,7 +16,6 @@ pub fn open(
 ) -> Result<Begun, AllocError>
     requires { writes ≤ MOST_WRITES }
 {
-    let _session = session.index();
     let answer = all.begin(session, frames)?;
     if let Begun::Number(_) = answer {
         add_writes(alloc, all, session, writes)?;
@@ -32,10 +31,8 @@ fn add_writes(
     writes: u32,
 ) -> Result<(), AllocError>
     requires few { writes ≤ MOST_WRITES }
-    requires sessions { length all.old.active ≡ SESSIONS }
     requires begun { IsSomeAnd (open_of all.old session) (λ transaction. length transaction.writes ≡ 0) }
 {
-    let _session = session.index();
     for index in 0..writes {
         all.add_write(
             session,

@@ -19,6 +19,7 @@ impl Xacts {
         ensures err { OnErr result (self.new ≡ self.old) }
         ensures stored { self.new.base + self.new.begun < 2 ^ 62 }
         ensures sessions { length self.new.active ≡ SESSIONS }
+        ensures place { session < length self.new.active }
     {
         let at = session.index() as usize;
         if self.active[at].is_some() {
