@@ -15,7 +15,8 @@ use Rattle.px_told.specs.Changes.{is_end}
 use Rattle.px_xlog.specs.Log.{Log, HasFirst, IsLogOf, full_at, with_frame}
 use Rattle.px_xlog.specs.Payload.{may_hold}
 use Rattle.px_xlog.specs.Contents.{the_log}
-use Rattle.px_logged.specs.Fitting.{Fits, tag_of}
+use Rattle.px_logged.specs.Fitting.{Fits}
+use Rattle.px_machine_laws.specs.Writers.{tag_of}
 use Rattle.px_logged.specs.Logged.{logged}
 use Rattle.px_standing.specs.Stored.{Stored, ReadsImages}
 use Rattle.px_standing.proofs.Calls.{stored_still, appending_stands, stored_appended, both_moments, commit_stands, stored_committed}

@@ -15,7 +15,8 @@ use Rattle.px_told.specs.declared.change.Change.{Change}
 use Rattle.px_told.specs.declared.change.Change.TheVariants.{Put, Commit as CommitChange, Rollback as RollbackChange}
 use Rattle.px_xlog.specs.Log.{Log}
 use Rattle.px_xlog.specs.Payload.{may_hold, may_hold_all}
-use Rattle.px_logged.specs.Fitting.{Fits, tag_of}
+use Rattle.px_logged.specs.Fitting.{Fits}
+use Rattle.px_machine_laws.specs.Writers.{tag_of}
 use Rattle.px_logged.specs.Logged.{logged}
 use Rattle.px_logged.proofs.Adding.{begin_adds_nothing, get_adds_nothing, hold_adds_nothing, fetch_adds_nothing, find_adds_nothing, scan_adds_nothing, insert_has_one, insert_adds, insert_leaves, update_has_one, update_adds, update_leaves, delete_has_one, delete_adds, delete_leaves, commit_adds, empty_commit_adds_nothing, no_commit_adds_nothing, rollback_adds, empty_rollback_adds_nothing, no_rollback_adds_nothing}
 use Rattle.px_logged.proofs.Fitted.{adds_what_may_stand, fits_after}

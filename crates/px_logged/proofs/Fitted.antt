@@ -21,7 +21,8 @@ use Rattle.px_xlog.specs.Log.{Log}
 use Rattle.px_xlog.specs.Payload.{may_hold, may_hold_all}
 use Rattle.px_xlog.specs.declared.payload.TheConstants.{LONGEST_KEY_AND_BODY}
 use Rattle.px_xlog.proofs.MayHold.{commit_may_be, rollback_may_be, row_may_be, deletion_may_be}
-use Rattle.px_logged.specs.Fitting.{Fits, tag_of}
+use Rattle.px_logged.specs.Fitting.{Fits}
+use Rattle.px_machine_laws.specs.Writers.{tag_of}
 use Rattle.px_logged.specs.Logged.{put_of, end_of, logged_when_done, logged}
 use Rattle.px_logged.proofs.Adding.{opened}
 use Rattle.px_logged.proofs.Recounted.{no_slot}

@@ -3,8 +3,6 @@ use Rattle.std.specs.Prelude.{◌≡◌, ℕ, ◌+◌, ◌<◌, ◌≤◌, Some}
 use Rattle.px_model.specs.declared.limits.TheConstants.{LONGEST_KEY, STORED_NUMBERS_END}
 use Rattle.px_model.specs.declared.machine.Open.{Open}
 use Rattle.px_model.specs.Machine.{Machine, commits}
-use Rattle.px_calls.specs.declared.call.Call.{Call}
-use Rattle.px_calls.specs.declared.call.Call.TheVariants.{Insert, Update}
 use Rattle.px_calls.specs.Steps.{open_of}
 use Rattle.px_xlog.specs.Log.{Log}
 use Rattle.px_xlog.specs.declared.payload.TheConstants.{LONGEST_KEY_AND_BODY}
@@ -18,9 +16,3 @@ pub record Fits (m : Machine) (log : Log) : Type 0 where
   -- the transactions that are open were begun
   pub begun : (session : ℕ) (xact : Open) → open_of m session ≡ Some xact → (1 ≤ xact.number) × (xact.number ≤ m.begun)
   pub commits : commits m ≤ log.frames
-
--- the tag that a call writes, or 0 where it writes none
-abbrev pub tag_of : Call → ℕ
-tag_of (Insert table key tag body) = tag
-tag_of (Update table key tag body) = tag
-tag_of _ = 0

@@ -3,6 +3,8 @@ use Rattle.std.specs.Prelude.{ℕ, ◌+◌, ◌-◌, ◌==◌, length, Option, S
 use Rattle.px_model.specs.declared.write.Write.{Write}
 use Rattle.px_model.specs.declared.machine.Open.{Open}
 use Rattle.px_model.specs.Machine.{Machine}
+use Rattle.px_calls.specs.declared.call.Call.{Call}
+use Rattle.px_calls.specs.declared.call.Call.TheVariants.{Insert, Update}
 use Rattle.px_calls.specs.Steps.{open_of}
 
 abbrev pub number_with_writes : (base : ℕ) → Option Open → Option ℕ
@@ -20,3 +22,9 @@ writer_of m session = number_with_writes m.base (open_of m session)
 -- its last write
 abbrev pub last_write_of : Machine → ℕ → Option Write
 last_write_of m session = last_of (open_of m session)
+
+-- the tag that a call writes, or 0 where it writes none
+abbrev pub tag_of : Call → ℕ
+tag_of (Insert table key tag body) = tag
+tag_of (Update table key tag body) = tag
+tag_of _ = 0

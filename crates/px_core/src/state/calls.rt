@@ -2,7 +2,6 @@ ghost use Rattle.std.specs.Prelude.{◌≡◌, ◌<◌, ◌^◌, Some, true, IfO
 ghost use Rattle.px_site.specs.Cause.{NoneFell};
 ghost use Rattle.px_site.specs.declared.error.SiteError.{SiteError};
 ghost use Rattle.px_calls.specs.declared.call.Call.{Call};
-ghost use Rattle.px_logged.specs.Fitting.{tag_of};
 ghost use Rattle.px_core.specs.Core.{adds_nothing, is_write};
 ghost use Rattle.px_core.specs.Serving.{Answers, Refuses, StandsWithin};
 
@@ -64,7 +63,6 @@ impl<W: Site> Core<W> {
         ensures refused { IfErr result (Refuses W.tells W.state W.counts session call self.old self.new) }
         ensures none_fell { NoneFell (W.counts self.old.site) (W.counts self.new.site) }
     {
-        let _tag = tag_of(&call);
         let reply = self.sessions.step(session, call)?;
         if reply.is_refusal() {
             return Ok(reply);
@@ -103,16 +101,5 @@ impl<W: Site> Core<W> {
         };
         self.append(&Change::Rollback { xn })?;
         Ok(self.sessions.rollback(session)?)
-    }
-}
-
-// The tag that a call writes, 0 where it writes none. A frame takes each.
-fn tag_of(call: &Call) -> u32
-    ensures is { result ≡ tag_of call.now }
-    ensures fits { tag_of call.now < 2 ^ 32 }
-{
-    match call {
-        Call::Insert { tag, .. } | Call::Update { tag, .. } => *tag,
-        _ => 0,
     }
 }

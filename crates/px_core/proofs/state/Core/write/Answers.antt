@@ -33,7 +33,7 @@ pub append_last_write-requires : goal.append_last_write-requires
 append_last_write-requires g c =
     let i = c.self.inside in
     let one = writes_one i.sessions c.args.session c.args.call c.requires (ap is_refusal (sym c.in_ok-reply.ensures.reply) ∙ sym c.is_refusal.ensures ∙ c.if-is_refusal.false) in
-    may_put i.sessions c.step.new.self i.log c.args.session c.args.call one c.in_ok-reply.ensures.state c.self.invariant.0 c.self.invariant.1 c.tag_of-tag.ensures.fits
+    may_put i.sessions c.step.new.self i.log c.args.session c.args.call one c.in_ok-reply.ensures.state c.self.invariant.0 c.self.invariant.1 c.step.ensures.tag
 
 pub invariant_of-self-in-Err : goal.invariant_of-self-in-Err
 invariant_of-self-in-Err g c =
@@ -55,7 +55,7 @@ returns-in-Err-clause-moments g c t =
     let last = last_is inside.machine c.step.new.self c.args.session c.args.call one c.in_ok-reply.ensures.state in
     subst (λ (k : Kept g.row.W.Denot). StandsWithin g.W.Site.state c.args.session c.args.call c.args.self.now k) (sym c.self-2.view_is)
     (stands_adding g.W.Site.tells g.W.Site.state c.args.session c.args.call change c.args.self.now mid c.append_last_write.new.self (write_no_commit c.args.call c.requires)
-    (adds_one g.W.Site.tells g.W.Site.state c.args.session c.args.call change inside c.args.self.now mid c.append_last_write.new.self c.self.view_is c.self.invariant.0 c.self.invariant.1 c.tag_of-tag.ensures.fits one.adds refl refl
+    (adds_one g.W.Site.tells g.W.Site.state c.args.session c.args.call change inside c.args.self.now mid c.append_last_write.new.self c.self.view_is c.self.invariant.0 c.self.invariant.1 c.step.ensures.tag one.adds refl refl
     (λ t. c.append_last_write.ensures.moments t xn one.write writer last)) t)
 
 pub returns-in-Err-clause-refused : goal.returns-in-Err-clause-refused
@@ -92,7 +92,7 @@ returns-clause-answered g c =
     let state_is = c.in_ok-reply.ensures.state ∙ ap (λ (k : Kept g.row.W.Denot). state_after k.machine c.args.session c.args.call) c.self.view_is in
     subst (λ (m : Machine). Answers g.W.Site.tells g.W.Site.state c.args.session c.args.call c.args.self.now (record new { machine = m }) c.in_ok-reply.reply) (sym appends.machine)
     (answers_adding g.W.Site.tells g.W.Site.state c.args.session c.args.call change c.args.self.now mid new c.in_ok-reply.reply (write_no_commit c.args.call c.requires)
-    (adds_one g.W.Site.tells g.W.Site.state c.args.session c.args.call change inside c.args.self.now mid c.append_last_write.new.self c.self.view_is c.self.invariant.0 c.self.invariant.1 c.tag_of-tag.ensures.fits one.adds refl refl
+    (adds_one g.W.Site.tells g.W.Site.state c.args.session c.args.call change inside c.args.self.now mid c.append_last_write.new.self c.self.view_is c.self.invariant.0 c.self.invariant.1 c.step.ensures.tag one.adds refl refl
     (λ t. c.append_last_write.ensures.moments t xn one.write writer last))
     appends (ap (λ (k : Kept g.row.W.Denot). k.error) c.self.view_is) c.step.new.self state_is
     (subst (λ (k : Kept g.row.W.Denot). k.log.frames ≤ 2 ^ 48) c.self-2.view_is c.self-2.invariant.1) (λ t name. g.met.W.Site.reads_image t new.site name)
@@ -108,5 +108,5 @@ returns-clause-moments g c t =
     let writer = writer_is inside.machine c.step.new.self c.args.session c.args.call one c.in_ok-reply.ensures.state in
     let last = last_is inside.machine c.step.new.self c.args.session c.args.call one c.in_ok-reply.ensures.state in
     stands_adding g.W.Site.tells g.W.Site.state c.args.session c.args.call change c.args.self.now mid c.append_last_write.new.self (write_no_commit c.args.call c.requires)
-    (adds_one g.W.Site.tells g.W.Site.state c.args.session c.args.call change inside c.args.self.now mid c.append_last_write.new.self c.self.view_is c.self.invariant.0 c.self.invariant.1 c.tag_of-tag.ensures.fits one.adds refl refl
+    (adds_one g.W.Site.tells g.W.Site.state c.args.session c.args.call change inside c.args.self.now mid c.append_last_write.new.self c.self.view_is c.self.invariant.0 c.self.invariant.1 c.step.ensures.tag one.adds refl refl
     (λ t. c.append_last_write.ensures.moments t xn one.write writer last)) t
