@@ -13,8 +13,15 @@ use std::test::Fail;
 /// The session and the call of a script's line.
 fn call_of(alloc: Global, line: &str) -> Result<(Session, Call), Fail> {
     match parse_line(alloc, line.as_bytes())? {
-        Some(Line::Step(Event::Session(session, call))) => Ok((session, call)),
-        _ => Err("no call".into()),
+        Some(Line::Step(event)) => session_call(event),
+        _ => Err("no step".into()),
+    }
+}
+
+fn session_call(event: Event) -> Result<(Session, Call), Fail> {
+    match event {
+        Event::Session(session, call) => Ok((session, call)),
+        Event::Activity(_) => Err("no call".into()),
     }
 }
 
