@@ -1,6 +1,6 @@
 -- The transactions of an opened store: those that are open, what became of those that ended, and what of them is still
 -- to be swept.
-use Rattle.std.specs.Prelude.{◌≡◌, ◌<◌, ◌≤◌, ℕ, ◌+◌, ◌-◌, Bool, true, false, ◌||◌, ◌==◌, nat_lt, nat_le, List, [], ◌∷◌, ◌++◌, map, length, take, Option, Some, None, is_some, option_map, unwrap_or, if◌then◌else◌, slice_get, slice_index_or, slice_set}
+use Rattle.std.specs.Prelude.{◌≡◌, ℕ, ◌+◌, ◌-◌, Bool, true, false, ◌||◌, ◌==◌, nat_lt, nat_le, List, [], ◌∷◌, ◌++◌, map, length, take, Option, Some, None, is_some, option_map, unwrap_or, if◌then◌else◌, slice_get, slice_index_or, slice_set}
 use Rattle.px_model.specs.declared.limits.TheConstants.{MOST_BEGINS, STORED_NUMBERS_END}
 use Rattle.px_model.specs.Machine.{lower_of}
 use Rattle.px_model.specs.declared.standing.Standing.{Standing}
@@ -185,7 +185,7 @@ standing_from place (outcome ∷ outcomes) number =
     if outcome.number == number then standing_at place outcome.committed
     else standing_from (place + 1) outcomes number
 
--- that of the transaction with this stored number
+-- that of the transaction with this stored number, which is open where nobody was given the number
 unfoldable pub standing : Transactions → (xn : ℕ) → Standing
 standing all xn = if nat_le xn all.base then Before else standing_from 0 all.outcomes (xn - all.base)
 
@@ -201,9 +201,3 @@ pub record IsEndedAs (all : Transactions) (place : ℕ) (committed : Bool) (xn :
   pub is : slice_get all.outcomes place ≡ Some outcome
   pub so : outcome.committed ≡ committed
   pub stored : all.base + outcome.number ≡ xn
-
--- the number is from before the opening, or that of a transaction with a write
-pub data HasStanding (all : Transactions) (xn : ℕ) : Type 0 where
-  from_before : xn ≤ all.base → HasStanding all xn
-  of_open : (session : ℕ) (writer : IsOpenAs all session xn) → 0 < length writer.transaction.writes → HasStanding all xn
-  of_ended : (place : ℕ) (committed : Bool) → IsEndedAs all place committed xn → HasStanding all xn
