@@ -14,6 +14,15 @@ pub struct SlotView {
     pub standing: Standing,
 }
 
+impl SlotView {
+    /// Whether the reader sees it: it wrote it itself, or it was done before the reader began.
+    pub fn is_visible(&self, own: u64, snapshot: u64) -> bool
+        ensures { result ≡ is_visible own snapshot self.now }
+    {
+        self.xn == own || is_done(self.standing, snapshot)
+    }
+}
+
 /// The slot of a chain, the newest first, that a reader sees: the first that it wrote itself, or that was done before the
 /// store was opened, or committed at a place below the snapshot. `own` is the reader's stored number. None where there is no
 /// such slot.
@@ -21,17 +30,11 @@ pub fn visible(chain: &[SlotView], own: u64, snapshot: u64) -> Option<u32>
     ensures { result ≡ option_map (λ view. view.slot) (find (is_visible own snapshot) chain.now) }
 {
     for view in chain {
-        if is_visible(view, own, snapshot) {
+        if view.is_visible(own, snapshot) {
             return Some(view.slot);
         }
     }
     None
-}
-
-fn is_visible(view: &SlotView, own: u64, snapshot: u64) -> bool
-    ensures { result ≡ is_visible own snapshot view.now }
-{
-    view.xn == own || is_done(view.standing, snapshot)
 }
 
 fn is_done(standing: Standing, snapshot: u64) -> bool
