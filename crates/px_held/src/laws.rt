@@ -1,0 +1,35 @@
+ghost use Rattle.std.specs.Prelude.{◌≡◌, ℕ, List};
+ghost use Rattle.px_cells.specs.Form.{is_short};
+ghost use Rattle.px_history.specs.Steps.{Step, after_step};
+ghost use Rattle.px_history.specs.Store.{Store};
+ghost use Rattle.px_laid.specs.Places.{Places};
+ghost use Rattle.px_opened.specs.Opened.{AreOpened};
+ghost use Rattle.px_site.specs.State.{State};
+ghost use Rattle.px_tables.specs.Held.{Held};
+ghost use Rattle.px_held.specs.Serving.{AreNumbered, HasSameTables, HeldTables, Serves};
+
+/// What serves a store asks of the site only the contents of the tables' files.
+pub fn serves_elsewhere()
+    ensures { (site other : State) (held : HeldTables) (store : Store) → HasSameTables site other → Serves site held store
+        → Serves other held store }
+{}
+
+/// Two stores that are served have the same tables, and the same layouts where both are sound.
+pub fn what_is_served_is_one()
+    ensures { (site : State) (held : HeldTables) (one other : Store) → Serves site held one → Serves site held other
+        → (t : ℕ) → one.tables t ≡ other.tables t }
+{}
+
+/// A commit and a rollback change no table: what served the store serves the one after them.
+pub fn an_end_changes_no_table()
+    ensures commit { (site : State) (held : HeldTables) (store : Store) (xn number : ℕ) → Serves site held store
+        → Serves site held (after_step store (Step.commit xn number)) }
+    ensures rollback { (site : State) (held : HeldTables) (store : Store) (xn : ℕ) → Serves site held store
+        → Serves site held (after_step store (Step.rollback xn)) }
+{}
+
+/// The tables that places open to are in order of their numbers.
+pub fn tables_that_open_are_numbered()
+    ensures { (short tables : ℕ) (places : Places) (opened : List Held) → AreOpened short tables places opened
+        → AreNumbered short opened }
+{}

@@ -1,0 +1,25 @@
+//! The tables of a store as its core sees them. Today they are in memory whole. Each call takes the site all the same, and may
+//! answer a fault of a read or that a cell is damaged: once the tables' cells are read from their files, the calls say the same.
+//!
+//! - `held`: `Held`, the tables. `held/reading` finds a key's row and the keys in their order, and says which version of a row a
+//!   reader sees, and which one was committed last.
+//! - `reader`: `Reader`, who reads. `walking`: walks along the chain of a row.
+//! - `error`: `HeldError`, why a call gives up.
+//! - `laws`: what serves a store asks of the site only the tables' files, and of the store only its tables.
+//!
+//! `specs/Serving` says when tables serve a store, `specs/Reading` which version was committed last, `specs/Errors` the causes
+//! of errors.
+#![tactic(auto)]
+
+mod error;
+mod held;
+mod laws;
+mod reader;
+mod walking;
+
+pub use error::HeldError;
+pub use held::Held;
+pub use laws::{
+    an_end_changes_no_table, serves_elsewhere, tables_that_open_are_numbered, what_is_served_is_one,
+};
+pub use reader::Reader;
