@@ -1,3 +1,4 @@
+pub mod Committed
 pub mod Numbered
 pub mod Serving
 pub mod Walks

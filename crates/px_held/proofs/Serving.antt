@@ -14,6 +14,7 @@ use Rattle.px_opened.specs.Opened.{tables_of}
 use Rattle.px_site.specs.State.{State}
 use Rattle.px_tables.specs.Held.{HasLayout, Held, table_of}
 use Rattle.px_tables.specs.Keys.{HasNoRow}
+use Rattle.px_tables.specs.Order.{HasNoKeyPast}
 use Rattle.px_xacts.specs.Transactions.{Transactions}
 use Rattle.px_held.specs.Reading.{newest_committed}
 use Rattle.px_held.specs.Serving.{AreTablesOf, HasSameTables, HeldTables, IsTableOf, Serves}
@@ -94,3 +95,8 @@ newest_served {table} site held store number all row result serves at is =
     is (store.layouts number) (layout_served site held store number serves at)
     ∙ ap (λ (t : Table). find (λ (view : SlotView). is_committed view.standing) (map (view_of all t) ((store.layouts number).chain row)))
     (sym (table_served site held store number serves at))
+
+pub no_key : (site : State) (held : HeldTables) (store : Store) (number : ℕ) (after : Option (List ℕ)) → Serves site held store → tables_of held.tables number ≡ unused_table
+    → HasNoKeyPast (store.tables number) after
+no_key site held store number after serves unused row used past =
+    none_used (store.tables number) row (sym ((served site held store serves).tables number) ∙ unused) used

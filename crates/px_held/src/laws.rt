@@ -1,11 +1,18 @@
-ghost use Rattle.std.specs.Prelude.{◌≡◌, ℕ, List};
-ghost use Rattle.px_cells.specs.Form.{is_short};
+ghost use Rattle.std.specs.Prelude.{◌≡◌, ℕ, List, option_map};
+ghost use Rattle.px_cell_laws.specs.Holding.{HoldsChains, variation_in};
+ghost use Rattle.px_chain.specs.Sound.{IsUsedRow, key_of};
+ghost use Rattle.px_chain_laws.specs.Reading as machine;
 ghost use Rattle.px_history.specs.Steps.{Step, after_step};
 ghost use Rattle.px_history.specs.Store.{Store};
 ghost use Rattle.px_laid.specs.Places.{Places};
+ghost use Rattle.px_model.specs.Machine.{Machine};
 ghost use Rattle.px_opened.specs.Opened.{AreOpened};
+ghost use Rattle.px_shown.specs.Parts.{Parts};
 ghost use Rattle.px_site.specs.State.{State};
 ghost use Rattle.px_tables.specs.Held.{Held};
+ghost use Rattle.px_xacts.specs.Transactions.{Transactions};
+ghost use Rattle.px_xacts_laws.specs.Mirrors.{Mirrors};
+ghost use Rattle.px_held.specs.Reading.{newest_committed};
 ghost use Rattle.px_held.specs.Serving.{AreNumbered, HasSameTables, HeldTables, Serves};
 
 /// What serves a store asks of the site only the contents of the tables' files.
@@ -14,7 +21,7 @@ pub fn serves_elsewhere()
         → Serves other held store }
 {}
 
-/// Two stores that are served have the same tables, and the same layouts where both are sound.
+/// Two stores that are served have the same tables.
 pub fn what_is_served_is_one()
     ensures { (site : State) (held : HeldTables) (one other : Store) → Serves site held one → Serves site held other
         → (t : ℕ) → one.tables t ≡ other.tables t }
@@ -32,4 +39,13 @@ pub fn an_end_changes_no_table()
 pub fn tables_that_open_are_numbered()
     ensures { (short tables : ℕ) (places : Places) (opened : List Held) → AreOpened short tables places opened
         → AreNumbered short opened }
+{}
+
+/// The newest version of a row whose transaction committed since the opening holds the machine's newest committed variation of
+/// the row's key: the one that tells whom a write would meet.
+pub fn the_newest_commit_stands_in_the_cells()
+    ensures { (parts : Parts) (m : Machine) (all : Transactions) (store : Store) (t row : ℕ) → HoldsChains parts m store → Mirrors m all
+        → IsUsedRow (store.tables t) row
+        → option_map (λ view. variation_in parts m.base t ((store.tables t).slot view.slot)) (newest_committed all store t row)
+        ≡ machine.newest_committed m (t, key_of (store.tables t) row) }
 {}

@@ -5,7 +5,8 @@
 //!   reader sees, and which one was committed last.
 //! - `reader`: `Reader`, who reads. `walking`: walks along the chain of a row.
 //! - `error`: `HeldError`, why a call gives up.
-//! - `laws`: what serves a store asks of the site only the tables' files, and of the store only its tables.
+//! - `laws`: what serves a store asks of the site only the tables' files, and of the store only its tables; the newest committed
+//!   version is the machine's.
 //!
 //! `specs/Serving` says when tables serve a store, `specs/Reading` which version was committed last, `specs/Errors` the causes
 //! of errors.
@@ -20,6 +21,7 @@ mod walking;
 pub use error::HeldError;
 pub use held::Held;
 pub use laws::{
-    an_end_changes_no_table, serves_elsewhere, tables_that_open_are_numbered, what_is_served_is_one,
+    an_end_changes_no_table, serves_elsewhere, tables_that_open_are_numbered,
+    the_newest_commit_stands_in_the_cells, what_is_served_is_one,
 };
 pub use reader::Reader;

@@ -19,7 +19,7 @@ is_equal Greater h = absurd (false≢true h)
 same_bytes : (j k : List ℕ) → is_eq (slice_cmp nat_cmp j k) ≡ true → j ≡ k
 same_bytes j k h = exact_bytes j k (is_equal (slice_cmp nat_cmp j k) h)
 
-apart : (j k : List ℕ) → j ≢ k → is_eq (slice_cmp nat_cmp j k) ≡ false
+pub apart : (j k : List ℕ) → j ≢ k → is_eq (slice_cmp nat_cmp j k) ≡ false
 apart j k ne = (elim (is_eq (slice_cmp nat_cmp j k)) as (λ b. is_eq (slice_cmp nat_cmp j k) ≡ b → is_eq (slice_cmp nat_cmp j k) ≡ false) [
   | true ↦ λ e. absurd (ne (same_bytes j k e))
   | false ↦ λ e. e
@@ -36,7 +36,7 @@ own Greater h = absurd (greater_less h)
     greater_less : Greater ≡ Less → ⊥
     greater_less e = cc
 
-equal_itself : (key : List ℕ) → is_eq (slice_cmp nat_cmp key key) ≡ true
+pub equal_itself : (key : List ℕ) → is_eq (slice_cmp nat_cmp key key) ≡ true
 equal_itself key = ap is_eq (own (slice_cmp nat_cmp key key) (nat_list_cmp_total.antisymm key key))
 
 pub cases_key : (j k : List ℕ) → (j ≡ k) ⊎ (j ≢ k)

@@ -1,12 +1,14 @@
-ghost use Rattle.std.specs.Prelude.{◌≡◌, ◌≢◌, ℕ, List, [], MatchOption, OnOk, Some, if◌then◌else◌, is_some, true};
+ghost use Rattle.std.specs.Prelude.{◌≡◌, ◌≢◌, ℕ, List, [], MatchOption, OnOk, Some, if◌then◌else◌, is_some, option_map, true};
 ghost use Rattle.std.specs.Ordering.{nat_cmp};
 ghost use Rattle.std.specs.Cmp.Lexicographic.{slice_cmp};
 ghost use Rattle.std.specs.BTreeMap.{UpdatesBy, get_by};
 ghost use Rattle.px_tables.specs.Keys.{IsEntered, entry_in, row_named};
+ghost use Rattle.px_tables.specs.Order.{IsNextName, NamesNonePast};
 
 use std::alloc::{AllocError, Global};
 use std::collections::BTreeMap;
 use std::marker::Model;
+use std::ops::Bound;
 
 /// The rows that keys name. A key can be entered without a row, so that naming one then takes no memory.
 #[derive(Drop)]
@@ -42,6 +44,22 @@ impl Keys {
             return None;
         }
         Some(row)
+    }
+
+    /// The least key past another one that names a row, with that row; the least of all after None.
+    pub(crate) fn past(&self, after: Option<&Vec<u8>>) -> Option<(&[u8], u32)>
+        ensures { MatchOption result (NamesNonePast self.now (option_map (λ key. key.now.items) after.entry)) (λ found. IsNextName self.now (option_map (λ key. key.now.items) after.entry) found.0.now found.1) }
+    {
+        let start = match after {
+            Some(key) => Bound::Excluded(key),
+            None => Bound::Unbounded,
+        };
+        for (key, row) in self.rows.range((start, Bound::Unbounded)) {
+            if *row != 0 {
+                return Some((key.as_slice(), *row));
+            }
+        }
+        None
     }
 
     /// What the key is entered with.

@@ -1,4 +1,5 @@
-ghost use Rattle.std.specs.Prelude.{◌≡◌, ◌<◌, ◌≤◌, IfOk, MatchOption};
+ghost use Rattle.std.specs.Prelude.{◌≡◌, ◌<◌, ◌≤◌, IfOk, MatchOption, option_map};
+ghost use Rattle.px_tables.specs.Order.{HasNoKeyPast, IsNextKey};
 ghost use Rattle.px_chain.specs.Links.{chain_of};
 ghost use Rattle.px_chain.specs.Sound.{IsUsedRow, Layout};
 ghost use Rattle.px_tables.specs.Held.{HasLayout, slot_at, table_of};
@@ -7,6 +8,7 @@ ghost use Rattle.px_tables.specs.Keys.{HasNoRow, IsRowOf};
 use super::Table;
 use crate::versions::Versions;
 use px_cells::{Header, Pointer, Slot};
+use std::alloc::AllocError;
 
 impl Table {
     pub fn header(&self) -> Header
@@ -20,6 +22,21 @@ impl Table {
         ensures { MatchOption result (HasNoRow (table_of self.now.cells) key.now) (λ row. IsRowOf (table_of self.now.cells) key.now row) }
     {
         self.keys.row_of(key)
+    }
+
+    /// The least key past another one that has a row, with that row; the least of all after None. None exactly where there is
+    /// none. It fails only for want of memory.
+    pub fn key_past(&self, after: Option<&[u8]>) -> Result<Option<(&[u8], u32)>, AllocError>
+        ensures { IfOk result (λ next. MatchOption next (HasNoKeyPast (table_of self.now.cells) (option_map (λ key. key.now) after.entry))
+            (λ found. IsNextKey (table_of self.now.cells) (option_map (λ key. key.now) after.entry) found.0.now found.1)) }
+    {
+        match after {
+            Some(key) => {
+                let key = Vec::from_slice(self.allocator(), key)?;
+                Ok(self.keys.past(Some(&key)))
+            }
+            None => Ok(self.keys.past(None)),
+        }
     }
 
     /// The slot with this number.
