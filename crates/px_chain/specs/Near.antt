@@ -1,10 +1,11 @@
 -- What an unlink reads of a chain: the slots that go and their two neighbours. They tell its cells.
-use Rattle.std.specs.Prelude.{ℕ, Bool, true, false, ◌&&◌, All, IfSome, List, [], ◌∷◌, ◌++◌, map, Option, Some, None, is_none, unwrap_or, if◌then◌else◌}
+use Rattle.std.specs.Prelude.{ℕ, ◌+◌, ◌==◌, Bool, true, false, ◌&&◌, All, IfSome, take, drop, List, [], ◌∷◌, ◌++◌, map, Option, Some, None, is_none, unwrap_or, if◌then◌else◌}
 use Rattle.px_cells.specs.declared.header.Header.{Header}
 use Rattle.px_cells.specs.declared.pointer.Pointer.{Pointer}
 use Rattle.px_chain.specs.declared.chain.Linked.{Linked}
-use Rattle.px_chain.specs.Links.{IsStored, Parts, by_number, content_of, first_or, freed, row_of}
-use Rattle.px_chain.specs.Table.{Content}
+use Rattle.px_chain.specs.Links.{IsStored, Parts, by_number, chain_of, content_of, first_or, freed, row_of}
+use Rattle.px_chain.specs.Places.{slot_before, slot_in}
+use Rattle.px_chain.specs.Table.{Content, Table}
 
 -- the slot in front of those that go, those, the newest first, and the number of the slot behind them
 pub record Near : Type 0 where
@@ -23,6 +24,21 @@ first_number (first ∷ others) = Some first.number
 
 abbrev pub near_of : Parts → Near
 near_of parts = record { newer = last_linked parts.before; gone = parts.gone; older = first_number parts.behind }
+
+-- the slot with its number, none for 0
+abbrev pub linked_at : Table → ℕ → Option Linked
+linked_at table number = if number == 0 then None else Some (record { number = number; slot = table.slot number })
+
+abbrev pub number_at : ℕ → Option ℕ
+number_at number = if number == 0 then None else Some number
+
+-- so many slots of a chain from a place on, with their neighbours
+abbrev pub near_at : Table → (chain : List ℕ) (from count : ℕ) → Near
+near_at table chain from count = record {
+  newer = linked_at table (slot_before chain from);
+  gone = chain_of table (take count (drop from chain));
+  older = number_at (slot_in chain (from + count));
+}
 
 -- those that go, and the slot in front of them, hold a row or a deletion
 pub record IsNearStored (short : ℕ) (near : Near) : Type 0 where

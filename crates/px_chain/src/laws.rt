@@ -4,7 +4,7 @@ ghost use Rattle.px_cells.specs.declared.header.Header.{Header};
 ghost use Rattle.px_cells.specs.declared.slot.Slot.{Slot};
 ghost use Rattle.px_free.specs.Places.{next_place, slots_of};
 ghost use Rattle.px_chain.specs.Links.{BeginsRow, IsSameVariation, IsStored, Parts, Rise, VariesRow, chain_of, is_emptied, link_cells, linked, parts_of, row_taken, slot_taken, unlink_cells, unlinked, unlinked_header, unlinked_pointer, unlinked_slots};
-ghost use Rattle.px_chain.specs.Near.{near_cells, near_header, near_of, near_pointer, near_slots};
+ghost use Rattle.px_chain.specs.Near.{near_at, near_cells, near_header, near_of, near_pointer, near_slots};
 ghost use Rattle.px_chain.specs.Places.{StandsAt, slot_in};
 ghost use Rattle.px_chain.specs.Sound.{IsApart, IsLinkedAlike, IsSound, IsUsedRow, IsVariation, Layout, head_of, key_of, next_slot, no_layout, no_places};
 ghost use Rattle.px_chain.specs.Table.{Table, laid};
@@ -77,6 +77,13 @@ pub fn neighbours_tell_an_unlink()
     ensures slots { (header : Header) (parts : Parts) → near_slots header (near_of parts) ≡ unlinked_slots header parts }
     ensures pointer { (header : Header) (parts : Parts) → near_pointer header (near_of parts) ≡ unlinked_pointer header parts }
     ensures cells { (header : Header) (parts : Parts) → near_cells header (near_of parts) ≡ unlink_cells header parts }
+{}
+
+/// In a chain these are the slots at their places: those from a place on, the one in front of it and the one behind them.
+pub fn neighbours_stand_beside_a_run()
+    ensures { (short : ℕ) (table : Table) (layout : Layout) (row from count : ℕ) → IsSound short table layout
+        → from + count ≤ length (layout.chain row)
+        → near_of (parts_of (chain_of table (layout.chain row)) from count) ≡ near_at table (layout.chain row) from count }
 {}
 
 /// A row pointer leads to the first slot of its row's chain, and each slot there, which holds a variation of the row, to the one

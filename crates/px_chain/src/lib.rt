@@ -27,9 +27,9 @@ pub use cut::Cut;
 pub use laws::{
     a_new_row_is_sound, a_new_variation_is_sound, a_place_stands_once,
     cells_with_the_same_links_are_sound, each_slot_leads_to_the_one_behind,
-    neighbours_tell_an_unlink, no_cells_are_sound, rows_keep_their_keys,
-    slots_that_stay_hold_the_same, sound_cells_have_one_layout, unlinked_cells_are_in_order,
-    unlinked_cells_are_sound,
+    neighbours_stand_beside_a_run, neighbours_tell_an_unlink, no_cells_are_sound,
+    rows_keep_their_keys, slots_that_stay_hold_the_same, sound_cells_have_one_layout,
+    unlinked_cells_are_in_order, unlinked_cells_are_sound,
 };
 pub use linking::link;
 pub use unlinking::{Unlinked, unlink};
