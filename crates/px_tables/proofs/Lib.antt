@@ -6,3 +6,4 @@ pub mod Keeping
 pub mod Prepared
 pub mod Unlaying
 pub mod Opened
+pub mod Running

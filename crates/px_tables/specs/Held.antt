@@ -1,9 +1,8 @@
 -- What a table in memory holds: its cells, and room for one more version.
-use Rattle.std.specs.Prelude.{◌≡◌, ℕ, ◌+◌, ◌-◌, IsTrue, false, nat_lt, List, [], ◌∷◌, ◌++◌, length, slice_index_or, slice_set, if◌then◌else◌}
+use Rattle.std.specs.Prelude.{◌≡◌, ℕ, ◌+◌, ◌-◌, IsTrue, nat_lt, List, [], ◌∷◌, ◌++◌, length, slice_index_or, slice_set, if◌then◌else◌}
 use Rattle.px_cells.specs.declared.header.Header.{Header}
 use Rattle.px_cells.specs.declared.pointer.Pointer.{Pointer}
 use Rattle.px_cells.specs.declared.slot.Slot.{Slot}
-use Rattle.px_cells.specs.declared.slot.SlotState.TheVariants.{Free}
 use Rattle.px_cells.specs.Form.{is_short}
 use Rattle.px_chain.specs.Sound.{IsSound, Layout, no_places}
 use Rattle.px_chain.specs.Table.{Table}

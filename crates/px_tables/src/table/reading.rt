@@ -7,6 +7,7 @@ ghost use Rattle.px_tables.specs.Keys.{HasNoRow, IsRowOf};
 use super::Table;
 use crate::versions::Versions;
 use px_cells::{Header, Pointer, Slot};
+use std::alloc::AllocError;
 
 impl Table {
     pub fn header(&self) -> Header
@@ -36,6 +37,18 @@ impl Table {
         ensures { result ≡ (table_of self.now.cells).pointer row }
     {
         self.pointers[row as usize]
+    }
+
+    /// The slots of a row's versions, the newest first. It fails only for want of memory.
+    pub fn slots_of(&self, row: u32) -> Result<Vec<u32>, AllocError>
+        requires { IsUsedRow (table_of self.now.cells) row }
+        ensures { IfOk result (λ slots. (layout : Layout) → HasLayout self.now.cells layout → slots.items ≡ layout.chain row) }
+    {
+        let mut slots = Vec::new(self.allocator());
+        for (number, _) in self.versions(row) {
+            slots.push(number)?;
+        }
+        Ok(slots)
     }
 
     /// The versions of a row, the newest first.
