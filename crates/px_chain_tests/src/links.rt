@@ -141,10 +141,11 @@ fn one_unlinked(
     gone: Linked,
     older: Option<u32>,
 ) -> Result<String, Fail>
-    requires newer { IfSome (option_copied newer.entry) (λ linked. IsStored SHORT linked.slot) }
+    requires newer { IfSome (option_copied newer) (λ linked. IsStored SHORT linked.slot) }
     requires gone { IsStored SHORT gone.slot }
 {
-    let cut = Cut::new(newer, &[gone], older);
+    let gone = [gone];
+    let cut = Cut::new(newer, &gone, older);
     let cells = unlink(alloc, TABLE, header, &cut, SHORT)?;
     text_of(alloc, &cells)
 }
@@ -157,11 +158,12 @@ fn two_unlinked(
     second: Linked,
     older: Option<u32>,
 ) -> Result<String, Fail>
-    requires newer { IfSome (option_copied newer.entry) (λ linked. IsStored SHORT linked.slot) }
+    requires newer { IfSome (option_copied newer) (λ linked. IsStored SHORT linked.slot) }
     requires first { IsStored SHORT first.slot }
     requires second { IsStored SHORT second.slot }
 {
-    let cut = Cut::new(newer, &[first, second], older);
+    let gone = [first, second];
+    let cut = Cut::new(newer, &gone, older);
     let cells = unlink(alloc, TABLE, &OLD, &cut, SHORT)?;
     text_of(alloc, &cells)
 }
