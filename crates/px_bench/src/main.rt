@@ -8,9 +8,11 @@
 //! - `lines`: the lines of standard input, split and parsed.
 //! - `files`: pieces written to a file of a folder, synced and read, and files made and listed.
 //! - `log`: frames appended to a log in a folder.
+//! - `chains`: versions of one key that are unlinked one by one.
 //! - `timing`: how long a loop took.
 #![tactic(auto)]
 
+mod chains;
 mod files;
 mod frames;
 mod lines;
@@ -45,9 +47,10 @@ fn main(rt: HostRuntime) -> anyhow::Result<()> {
         "reads" => files::reads(&rt, size),
         "lists" => files::lists(&rt, size),
         "appends" => log::appends(&rt, size),
+        "unlinks" => chains::unlinks(&rt, size),
         _ => {
             println!(&rt;
-                "px_bench [fnv BYTES|frames BYTES|lines|writes TIMES|syncs TIMES|reads TIMES|lists FILES|appends TIMES]"
+                "px_bench [fnv BYTES|frames BYTES|lines|writes TIMES|syncs TIMES|reads TIMES|lists FILES|appends TIMES|unlinks VERSIONS]"
             )?;
             Ok(())
         }
@@ -62,5 +65,6 @@ fn all(rt: &HostRuntime) -> anyhow::Result<()> {
     files::syncs(rt, TIMES)?;
     files::reads(rt, TIMES)?;
     files::lists(rt, TIMES)?;
-    log::appends(rt, TIMES)
+    log::appends(rt, TIMES)?;
+    chains::unlinks(rt, TIMES)
 }

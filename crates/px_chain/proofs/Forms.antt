@@ -1,6 +1,6 @@
 -- The slots that an unlink changes are in a form that the store may have.
 use Rattle.std.proofs.Common.{◌≡◌, ◌≢◌, ℕ, true, IsTrue, List, [], ◌∷◌, ◌++◌, take, drop, refl}
-use Rattle.std.specs.Prelude.{All, fold, nat_le}
+use Rattle.std.specs.Prelude.{All, IfSome, Option, Some, None, fold, nat_le, unwrap_or}
 use Rattle.std.specs.List.{position_or_len}
 use Rattle.std.proofs.lemmas.Bool.{and_parts}
 use Rattle.std.proofs.lemmas.List.Elements.{All-nil, All-cons, All-head, All-tail, All-append, All-take, All-drop}
@@ -10,6 +10,7 @@ use Rattle.px_cells.specs.declared.slot.SlotState.{SlotState}
 use Rattle.px_cells.specs.declared.slot.SlotState.TheVariants.{Free, Row, Deletion}
 use Rattle.px_cells.specs.Form.{is_slot, is_in_state, has_key}
 use Rattle.px_chain.specs.declared.chain.Linked.{Linked}
+use Rattle.px_chain.specs.Near.{IsNearStored, Near, led_to, near_slots}
 use Rattle.px_chain.specs.Links.{IsStored, first_or, freed_slot, freed, relinked, placed, parts_of, unlinked_slots}
 
 abbrev pub IsFormed : ℕ → Linked → Type 0
@@ -66,3 +67,14 @@ all_unlinked short header chain from count all =
     (All-append (IsFormed short) (relinked parts.before (first_or parts.behind 0)) (freed parts.gone header.free_slot)
     (all_relinked short (first_or parts.behind 0) parts.before (All-take (IsLinkStored short) from chain all))
     (all_freed short header.free_slot parts.gone (All-take (IsLinkStored short) count (drop from chain) (All-drop (IsLinkStored short) from chain all))))
+
+led_form : (short next : ℕ) (linked : Option Linked) → IfSome linked (IsLinkStored short) → All (IsFormed short) (led_to next linked)
+led_form short next None is = All-nil (IsFormed short)
+led_form short next (Some linked) is = All-cons (IsFormed short) _ [] (relinked_form short next linked.slot is) (All-nil (IsFormed short))
+
+pub all_near : (short : ℕ) (header : Header) (near : Near) → IsNearStored short near → All (IsFormed short) (near_slots header near)
+all_near short header near is =
+    let next = unwrap_or near.older 0 in
+    all_in_order (IsFormed short) [] (led_to next near.newer ++ freed near.gone header.free_slot) (All-nil (IsFormed short))
+    (All-append (IsFormed short) (led_to next near.newer) (freed near.gone header.free_slot)
+    (led_form short next near.newer is.newer) (all_freed short header.free_slot near.gone is.gone))

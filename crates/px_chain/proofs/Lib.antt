@@ -1,10 +1,11 @@
 pub mod Overlays
 pub mod Places
 pub mod Forms
-pub mod Lasts
+pub mod Near
 pub mod Walks
 pub mod FreeLists
 pub mod SoundLink
 pub mod SoundUnlink
 pub mod SoundLaws
 pub mod Orders
+pub mod Standing

@@ -1,5 +1,7 @@
 pub mod Cells
 pub mod Links
+pub mod Near
+pub mod Places
 pub mod Sound
 pub mod Table
 pub mod Unlinked

@@ -1,44 +1,45 @@
-ghost use Rattle.std.specs.Prelude.{◌≡◌, ◌≤◌, ◌+◌, length};
-ghost use Rattle.px_chain.specs.Links.{Parts, first_or, is_emptied, parts_of, row_of, unlinked_header};
+ghost use Rattle.std.specs.Prelude.{◌≡◌};
+ghost use Rattle.std.specs.Option.{option_copied};
+ghost use Rattle.px_chain.specs.Links.{first_or, row_of};
+ghost use Rattle.px_chain.specs.Near.{is_alone, near_header};
 
 use crate::chain::Linked;
 use px_cells::Header;
 use px_free::{give_row, give_slot};
 use std::marker::Model;
 
-/// A chain cut in three: the slots that stay in front, those that go, and those that stay behind.
+/// What an unlink reads of a chain: the slots that go, and their two neighbours.
 #[derive(Drop)]
-pub(crate) struct Cut<'a> {
-    pub(crate) before: &'a [Linked],
+pub struct Cut<'a> {
+    /// The slot in front of those that go, if there is one.
+    pub(crate) newer: Option<&'a Linked>,
+    /// The slots that go, the newest first.
     pub(crate) gone: &'a [Linked],
-    pub(crate) behind: &'a [Linked],
+    /// The number of the slot behind them, if there is one.
+    pub(crate) older: Option<u32>,
 }
 
 impl<'a> Model for Cut<'a> {
-    ghost Value = { Parts };
+    ghost use Rattle.std.specs.Option.{option_copied};
+    ghost use Rattle.px_chain.specs.Near.{Near};
 
-    ghost view = { λ cut. record { before = cut.before.now; gone = cut.gone.now; behind = cut.behind.now } };
+    ghost Value = { Near };
+
+    ghost view = { λ cut. record { newer = option_copied cut.newer; gone = cut.gone.now; older = cut.older } };
 }
 
 impl<'a> Cut<'a> {
-    pub(crate) fn new(chain: &'a [Linked], from: usize, count: usize) -> Cut<'a>
-        requires { from + count ≤ length chain.now }
-        ensures { result ≡ parts_of chain.now from count }
+    pub fn new(newer: Option<&'a Linked>, gone: &'a [Linked], older: Option<u32>) -> Cut<'a>
+        ensures { result ≡ record { newer = option_copied newer.entry; gone = gone.now; older = older } }
     {
-        let (before, rest) = chain.split_at(from);
-        let (gone, behind) = rest.split_at(count);
-        Cut {
-            before,
-            gone,
-            behind,
-        }
+        Cut { newer, gone, older }
     }
 
     /// Whether no slot stays.
-    pub(crate) fn is_emptied(&self) -> bool
-        ensures { result ≡ is_emptied self.now }
+    pub(crate) fn is_alone(&self) -> bool
+        ensures { result ≡ is_alone self.now }
     {
-        self.before.is_empty() && self.behind.is_empty()
+        self.newer.is_none() && self.older.is_none()
     }
 
     /// The number of the row pointer.
@@ -53,10 +54,10 @@ impl<'a> Cut<'a> {
 
     /// The header once the slots are given back, and the row pointer too where no slot stays.
     pub(crate) fn header(&self, header: Header) -> Header
-        ensures { result ≡ unlinked_header header self.now }
+        ensures { result ≡ near_header header self.now }
     {
         let given = give_slot(header, number_or(self.gone, header.free_slot));
-        if self.is_emptied() {
+        if self.is_alone() {
             give_row(given, self.row())
         } else {
             given

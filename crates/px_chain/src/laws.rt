@@ -3,8 +3,10 @@ ghost use Rattle.px_chain.specs.declared.chain.Linked.{Linked};
 ghost use Rattle.px_cells.specs.declared.header.Header.{Header};
 ghost use Rattle.px_cells.specs.declared.slot.Slot.{Slot};
 ghost use Rattle.px_free.specs.Places.{next_place, slots_of};
-ghost use Rattle.px_chain.specs.Links.{BeginsRow, IsSameVariation, IsStored, Rise, VariesRow, chain_of, is_emptied, link_cells, linked, parts_of, row_taken, slot_taken, unlink_cells, unlinked, unlinked_slots};
-ghost use Rattle.px_chain.specs.Sound.{IsApart, IsLinkedAlike, IsSound, IsUsedRow, Layout, key_of, no_layout, no_places};
+ghost use Rattle.px_chain.specs.Links.{BeginsRow, IsSameVariation, IsStored, Parts, Rise, VariesRow, chain_of, is_emptied, link_cells, linked, parts_of, row_taken, slot_taken, unlink_cells, unlinked, unlinked_header, unlinked_pointer, unlinked_slots};
+ghost use Rattle.px_chain.specs.Near.{near_at, near_cells, near_header, near_of, near_pointer, near_slots};
+ghost use Rattle.px_chain.specs.Places.{StandsAt, slot_in};
+ghost use Rattle.px_chain.specs.Sound.{IsApart, IsLinkedAlike, IsSound, IsUsedRow, IsVariation, Layout, head_of, key_of, next_slot, no_layout, no_places};
 ghost use Rattle.px_chain.specs.Table.{Table, laid};
 
 /// A table without places is sound.
@@ -69,6 +71,32 @@ pub fn unlinked_cells_are_in_order()
         → length (unlink_cells header (parts_of chain from count)) ≡ count + 2 }
 {}
 
+/// The slots that go and their two neighbours tell the cells of an unlink; of the rest of the chain they are independent.
+pub fn neighbours_tell_an_unlink()
+    ensures header { (header : Header) (parts : Parts) → near_header header (near_of parts) ≡ unlinked_header header parts }
+    ensures slots { (header : Header) (parts : Parts) → near_slots header (near_of parts) ≡ unlinked_slots header parts }
+    ensures pointer { (header : Header) (parts : Parts) → near_pointer header (near_of parts) ≡ unlinked_pointer header parts }
+    ensures cells { (header : Header) (parts : Parts) → near_cells header (near_of parts) ≡ unlink_cells header parts }
+{}
+
+/// In a chain these are the slots at their places: those from a place on, the one in front of it and the one behind them.
+pub fn neighbours_stand_beside_a_run()
+    ensures { (short : ℕ) (table : Table) (layout : Layout) (row from count : ℕ) → IsSound short table layout
+        → from + count ≤ length (layout.chain row)
+        → near_of (parts_of (chain_of table (layout.chain row)) from count) ≡ near_at table (layout.chain row) from count }
+{}
+
+/// A row pointer leads to the first slot of its row's chain, and each slot there, which holds a variation of the row, to the one
+/// behind it.
+pub fn each_slot_leads_to_the_one_behind()
+    ensures head { (short : ℕ) (table : Table) (layout : Layout) (row : ℕ) → IsSound short table layout → IsUsedRow table row
+        → head_of table row ≡ slot_in (layout.chain row) 0 }
+    ensures next { (short : ℕ) (table : Table) (layout : Layout) (row place slot : ℕ) → IsSound short table layout
+        → StandsAt (layout.chain row) place slot → next_slot table slot ≡ slot_in (layout.chain row) (place + 1) }
+    ensures variation { (short : ℕ) (table : Table) (layout : Layout) (row place slot : ℕ) → IsSound short table layout
+        → StandsAt (layout.chain row) place slot → IsVariation table row slot }
+{}
+
 /// No list of sound cells meets a place twice, and no two of them share a slot.
 pub fn a_place_stands_once()
     ensures chains { (short : ℕ) (table : Table) (layout : Layout) (row : ℕ) → IsSound short table layout → IsApart (layout.chain row) }
@@ -78,6 +106,8 @@ pub fn a_place_stands_once()
         → Contains (layout.chain row) slot → Contains (layout.chain other) slot → row ≡ other }
     ensures chain_or_free { (short : ℕ) (table : Table) (layout : Layout) (row slot : ℕ) → IsSound short table layout
         → Contains (layout.chain row) slot → ¬ Contains layout.free_slots slot }
+    ensures one_place { (short : ℕ) (table : Table) (layout : Layout) (row place other slot : ℕ) → IsSound short table layout
+        → StandsAt (layout.chain row) place slot → StandsAt (layout.chain row) other slot → place ≡ other }
 {}
 
 /// The cells alone say what stands in the chains and on the free lists.

@@ -1,40 +1,39 @@
-ghost use Rattle.std.specs.Prelude.{◌≡◌, ◌+◌, ◌≤◌, ◌++◌, All, IfOk, IsTrue, OnOk, length, map, nat_le};
+ghost use Rattle.std.specs.Prelude.{◌≡◌, ◌≢◌, ◌≤◌, [], ◌++◌, All, IfOk, IsTrue, OnOk, length, map, nat_le};
+ghost use Rattle.std.specs.Option.{option_copied};
 ghost use Rattle.std.specs.List.{position_or_len};
 ghost use Rattle.px_cells.specs.Form.{is_short, is_slot};
 ghost use Rattle.px_chain.specs.declared.chain.Linked.{Linked};
 ghost use Rattle.px_chain.specs.Cells.{cell_of};
-ghost use Rattle.px_chain.specs.Links.{IsStored, content_of, freed_slot, parts_of, placed, pointer_content, relinked, unlink_cells, unlinked_header, unlinked_pointer, unlinked_slots};
+ghost use Rattle.px_chain.specs.Links.{content_of, freed_slot, placed, pointer_content};
+ghost use Rattle.px_chain.specs.Near.{IsNearStored, led_to, near_cells, near_header, near_pointer, near_slots};
 
 use crate::cells::{header_cell, pointer_cell, slot_cell};
-use crate::chain::{Chain, Linked};
+use crate::chain::Linked;
 use crate::cut::{Cut, number_or};
 use px_cells::{CellList, Header, Pointer, Slot, SlotState};
 use px_model::Bytes;
 use std::alloc::{AllocError, Global};
 
-/// The cells that unlink `count` variations of a chain, from place `from` on, where 0 is the newest: the header's, those of the
-/// slots that change, in order of their numbers, and that of the row pointer where no slot stays in front of those that go.
+/// The cells that unlink the slots of a cut: the header's, those of the slots that change, in order of their numbers, and that of
+/// the row pointer where no slot stays in front of those that go.
 ///
 /// The slots that go are given back one after the other, the oldest first, so the newest of them is in front of the free
 /// list. What was in front of them, a slot or the row pointer, then leads to what is behind them. Where no slot stays, the row
-/// pointer is given back too. Of sound cells it leaves sound ones (`unlinked_cells_are_sound`). It fails only for want of
-/// memory.
+/// pointer is given back too. The cut of a chain tells the cells as the whole chain does (`neighbours_tell_an_unlink`), and of
+/// sound cells they leave sound ones (`unlinked_cells_are_sound`). It fails only for want of memory.
 pub fn unlink(
     alloc: Global,
     table: u8,
     header: &Header,
-    chain: &Chain,
-    from: u32,
-    count: u32,
+    cut: &Cut<'_>,
     short: u32,
 ) -> Result<CellList, AllocError>
     requires short { IsTrue (is_short short) }
-    requires some { 1 ≤ count }
-    requires within { from + count ≤ length chain.now }
-    requires stored { All (λ linked. IsStored short linked.slot) chain.now }
-    ensures { IfOk result (λ cells. cells ≡ map (cell_of table short) (unlink_cells header.now (parts_of chain.now from count))) }
+    requires some { cut.now.gone ≢ [] }
+    requires stored { IsNearStored short cut.now }
+    ensures { IfOk result (λ cells. cells ≡ map (cell_of table short) (near_cells header.now cut.now)) }
 {
-    let unlinked = Unlinked::of(alloc, header, chain, from, count)?;
+    let unlinked = Unlinked::of(alloc, header, cut)?;
     unlinked.cells(alloc, table, short)
 }
 
@@ -53,23 +52,15 @@ impl Unlinked {
     ghost use Rattle.px_chain.specs.Unlinked.{contents_of};
 
     /// What `unlink` with these arguments changes. It fails only for want of memory.
-    pub fn of(
-        alloc: Global,
-        header: &Header,
-        chain: &Chain,
-        from: u32,
-        count: u32,
-    ) -> Result<Unlinked, AllocError>
-        requires { from + count ≤ length chain.now }
-        ensures header { IfOk result (λ unlinked. unlinked.header ≡ unlinked_header header.now (parts_of chain.now from count)) }
-        ensures slots { IfOk result (λ unlinked. unlinked.slots.items ≡ unlinked_slots header.now (parts_of chain.now from count)) }
-        ensures pointer { IfOk result (λ unlinked. pointer_content unlinked.pointer ≡ unlinked_pointer header.now (parts_of chain.now from count)) }
+    pub fn of(alloc: Global, header: &Header, cut: &Cut<'_>) -> Result<Unlinked, AllocError>
+        ensures header { IfOk result (λ unlinked. unlinked.header ≡ near_header header.now cut.now) }
+        ensures slots { IfOk result (λ unlinked. unlinked.slots.items ≡ near_slots header.now cut.now) }
+        ensures pointer { IfOk result (λ unlinked. pointer_content unlinked.pointer ≡ near_pointer header.now cut.now) }
     {
-        let cut = Cut::new(chain.as_slice(), from as usize, count as usize);
         Ok(Unlinked {
             header: cut.header(*header),
-            slots: unlinked_slots(alloc, header, &cut)?,
-            pointer: pointer_of(header, &cut),
+            slots: unlinked_slots(alloc, header, cut)?,
+            pointer: pointer_of(header, cut),
         })
     }
 
@@ -91,9 +82,9 @@ impl Unlinked {
 
 /// The slots that change, in order of their numbers.
 fn unlinked_slots(alloc: Global, header: &Header, cut: &Cut<'_>) -> Result<Vec<Linked>, AllocError>
-    ensures { IfOk result (λ slots. slots.items ≡ unlinked_slots header.now cut.now) }
+    ensures { IfOk result (λ slots. slots.items ≡ near_slots header.now cut.now) }
 {
-    let mut slots = relinked(alloc, cut.before, number_or(cut.behind, 0))?;
+    let mut slots = led_to(alloc, cut.newer, cut.older.unwrap_or(0))?;
     for (i, linked) in cut.gone.iter().enumerate() {
         let next = number_or(&cut.gone[i + 1..], header.free_slot);
         place(&mut slots, freed(alloc, linked, next)?)?;
@@ -101,22 +92,20 @@ fn unlinked_slots(alloc: Global, header: &Header, cut: &Cut<'_>) -> Result<Vec<L
     Ok(slots)
 }
 
-/// The last of the slots, with another `next`; none of none.
-#[tactic(auto, using(crate::proofs::Lasts::relinked_some))]
-fn relinked(alloc: Global, slots: &[Linked], next: u32) -> Result<Vec<Linked>, AllocError>
-    ensures { IfOk result (λ last. last.items ≡ relinked slots.now next) }
+/// The slot with another `next`, if there is one.
+fn led_to(alloc: Global, linked: Option<&Linked>, next: u32) -> Result<Vec<Linked>, AllocError>
+    ensures { IfOk result (λ slots. slots.items ≡ led_to next (option_copied linked.entry)) }
 {
-    let Some(last) = slots.last() else {
-        return Ok(Vec::new(alloc));
-    };
-    let mut slot = last.slot.copy()?;
-    slot.next = next;
-    let mut relinked = Vec::new(alloc);
-    relinked.push(Linked {
-        number: last.number,
-        slot,
-    })?;
-    Ok(relinked)
+    let mut slots = Vec::new(alloc);
+    if let Some(linked) = linked {
+        let mut slot = linked.slot.copy()?;
+        slot.next = next;
+        slots.push(Linked {
+            number: linked.number,
+            slot,
+        })?;
+    }
+    Ok(slots)
 }
 
 /// The slot as it is on the free list.
@@ -182,14 +171,17 @@ fn push_slots(
 
 /// The row pointer and its number, where no slot stays in front of those that go.
 fn pointer_of(header: &Header, cut: &Cut<'_>) -> Option<(u32, Pointer)>
-    ensures { pointer_content result ≡ unlinked_pointer header.now cut.now }
+    ensures { pointer_content result ≡ near_pointer header.now cut.now }
 {
-    if !cut.before.is_empty() {
+    if cut.newer.is_some() {
         return None;
     }
-    let pointer = Pointer {
-        used: !cut.is_emptied(),
-        head: number_or(cut.behind, header.free_row),
+    let pointer = match cut.older {
+        Some(head) => Pointer { used: true, head },
+        None => Pointer {
+            used: false,
+            head: header.free_row,
+        },
     };
     Some((cut.row(), pointer))
 }

@@ -1,9 +1,10 @@
-ghost use Rattle.std.specs.Prelude.{◌≡◌, ◌≤◌, ◌+◌, All, IfOk, length};
+ghost use Rattle.std.specs.Prelude.{IfOk, IfSome};
+ghost use Rattle.std.specs.Option.{option_copied};
 ghost use Rattle.px_chain.specs.Links.{IsStored};
 ghost use Rattle.px_chain_tests.specs.declared.links.TheConstants.{SHORT};
 
 use px_cells::{Cell, CellList, Header, Slot, SlotState};
-use px_chain::{Chain, Linked, link, unlink};
+use px_chain::{Cut, Linked, link, unlink};
 use px_model::Bytes;
 use std::alloc::{AllocError, Global};
 use std::test::Fail;
@@ -77,37 +78,44 @@ fn deletion(alloc: Global, xn: u64, next: u32) -> Result<Slot, AllocError>
     })
 }
 
-fn only(alloc: Global) -> Result<Chain, AllocError>
-    ensures length { IfOk result (λ chain. length chain ≡ 1) }
-    ensures stored { IfOk result (λ chain. All (λ linked. IsStored SHORT linked.slot) chain) }
+/// The row in slot 7, in front of the deletion.
+fn newest(alloc: Global) -> Result<Linked, AllocError>
+    ensures { IfOk result (λ linked. IsStored SHORT linked.slot) }
 {
-    let mut chain = Chain::new(alloc);
-    chain.push(Linked {
-        number: 1,
-        slot: row(alloc, 1, 0)?,
-    })?;
-    Ok(chain)
-}
-
-/// A row in slot 7, in front of a deletion in slot 3 and a row in slot 5.
-fn three(alloc: Global) -> Result<Chain, AllocError>
-    ensures length { IfOk result (λ chain. length chain ≡ 3) }
-    ensures stored { IfOk result (λ chain. All (λ linked. IsStored SHORT linked.slot) chain) }
-{
-    let mut chain = Chain::new(alloc);
-    chain.push(Linked {
+    Ok(Linked {
         number: 7,
         slot: row(alloc, 12, 3)?,
-    })?;
-    chain.push(Linked {
+    })
+}
+
+/// The deletion in slot 3, in front of the row in slot 5.
+fn middle(alloc: Global) -> Result<Linked, AllocError>
+    ensures { IfOk result (λ linked. IsStored SHORT linked.slot) }
+{
+    Ok(Linked {
         number: 3,
         slot: deletion(alloc, 11, 5)?,
-    })?;
-    chain.push(Linked {
+    })
+}
+
+/// The row in slot 5, behind which there is none.
+fn oldest(alloc: Global) -> Result<Linked, AllocError>
+    ensures { IfOk result (λ linked. IsStored SHORT linked.slot) }
+{
+    Ok(Linked {
         number: 5,
         slot: row(alloc, 10, 0)?,
-    })?;
-    Ok(chain)
+    })
+}
+
+/// A row in slot 1, alone.
+fn only(alloc: Global) -> Result<Linked, AllocError>
+    ensures { IfOk result (λ linked. IsStored SHORT linked.slot) }
+{
+    Ok(Linked {
+        number: 1,
+        slot: row(alloc, 1, 0)?,
+    })
 }
 
 const NEW: Header = Header {
@@ -125,11 +133,38 @@ const OLD: Header = Header {
     free_row: 2,
 };
 
-fn unlinked(alloc: Global, from: u32, count: u32) -> Result<String, Fail>
-    requires some { 1 ≤ count }
-    requires within { from + count ≤ 3 }
+/// The cells that unlink one slot.
+fn one_unlinked(
+    alloc: Global,
+    header: &Header,
+    newer: Option<&Linked>,
+    gone: Linked,
+    older: Option<u32>,
+) -> Result<String, Fail>
+    requires newer { IfSome (option_copied newer) (λ linked. IsStored SHORT linked.slot) }
+    requires gone { IsStored SHORT gone.slot }
 {
-    let cells = unlink(alloc, TABLE, &OLD, &three(alloc)?, from, count, SHORT)?;
+    let gone = [gone];
+    let cut = Cut::new(newer, &gone, older);
+    let cells = unlink(alloc, TABLE, header, &cut, SHORT)?;
+    text_of(alloc, &cells)
+}
+
+/// The cells that unlink two slots.
+fn two_unlinked(
+    alloc: Global,
+    newer: Option<&Linked>,
+    first: Linked,
+    second: Linked,
+    older: Option<u32>,
+) -> Result<String, Fail>
+    requires newer { IfSome (option_copied newer) (λ linked. IsStored SHORT linked.slot) }
+    requires first { IsStored SHORT first.slot }
+    requires second { IsStored SHORT second.slot }
+{
+    let gone = [first, second];
+    let cut = Cut::new(newer, &gone, older);
+    let cells = unlink(alloc, TABLE, &OLD, &cut, SHORT)?;
     text_of(alloc, &cells)
 }
 
@@ -149,16 +184,13 @@ fn a_first_variation_is_linked(rt: HostRuntime) -> Result<(), Fail> {
 #[test]
 fn an_only_variation_is_unlinked(rt: HostRuntime) -> Result<(), Fail> {
     let alloc = rt.alloc();
-    let chain = only(alloc)?;
-    let first = unlink(alloc, TABLE, &NEW, &chain, 0, 1, SHORT)?;
     assert_eq!(rt;
-        text_of(alloc, &first)?.as_str(),
+        one_unlinked(alloc, &NEW, None, only(alloc)?, None)?.as_str(),
         "Header 0 of table 1, 16: 3=1 7=1 11=1 15=1; \
         Slot 1 of table 1, 164: 1=2 23=7 36=107 37=49; Pointer 1 of table 1, 8:; "
     );
-    let other = unlink(alloc, TABLE, &OLD, &chain, 0, 1, SHORT)?;
     assert_eq!(rt;
-        text_of(alloc, &other)?.as_str(),
+        one_unlinked(alloc, &OLD, None, only(alloc)?, None)?.as_str(),
         "Header 0 of table 1, 16: 3=9 7=1 11=3 15=1; \
         Slot 1 of table 1, 164: 1=2 15=4 23=7 36=107 37=49; Pointer 1 of table 1, 8: 7=2; "
     );
@@ -168,18 +200,19 @@ fn an_only_variation_is_unlinked(rt: HostRuntime) -> Result<(), Fail> {
 #[test]
 fn variations_of_three_are_unlinked(rt: HostRuntime) -> Result<(), Fail> {
     let alloc = rt.alloc();
+    let newest_7 = newest(alloc)?;
     assert_eq!(rt;
-        unlinked(alloc, 1, 1)?.as_str(),
+        one_unlinked(alloc, &OLD, Some(&newest_7), middle(alloc)?, Some(5))?.as_str(),
         "Header 0 of table 1, 16: 3=9 7=3 11=3 15=2; Slot 3 of table 1, 164: 1=2 15=4 36=107 37=49; \
         Slot 7 of table 1, 164: 0=1 1=2 11=12 15=5 19=1 23=7 27=3 36=107 37=49 100=97 101=98 102=99; "
     );
     assert_eq!(rt;
-        unlinked(alloc, 0, 2)?.as_str(),
+        two_unlinked(alloc, None, newest(alloc)?, middle(alloc)?, Some(5))?.as_str(),
         "Header 0 of table 1, 16: 3=9 7=7 11=3 15=2; Slot 3 of table 1, 164: 1=2 15=4 36=107 37=49; \
         Slot 7 of table 1, 164: 1=2 15=3 23=7 36=107 37=49; Pointer 1 of table 1, 8: 0=1 7=5; "
     );
     assert_eq!(rt;
-        unlinked(alloc, 1, 2)?.as_str(),
+        two_unlinked(alloc, Some(&newest_7), middle(alloc)?, oldest(alloc)?, None)?.as_str(),
         "Header 0 of table 1, 16: 3=9 7=3 11=3 15=2; Slot 3 of table 1, 164: 1=2 15=5 36=107 37=49; \
         Slot 5 of table 1, 164: 1=2 15=4 23=7 36=107 37=49; \
         Slot 7 of table 1, 164: 0=1 1=2 11=12 19=1 23=7 27=3 36=107 37=49 100=97 101=98 102=99; "

@@ -7,3 +7,4 @@ pub mod Prepared
 pub mod Unlaying
 pub mod Opened
 pub mod Ordered
+pub mod Running

@@ -7,16 +7,17 @@ use Rattle.px_model.specs.declared.limits.TheConstants.{LONGEST_SHORT}
 use Rattle.px_model.specs.declared.limits.TheConstants.{LONGEST_KEY}
 use Rattle.px_model.specs.declared.write.Write.{Write}
 use Rattle.px_model.specs.declared.write.Write.TheVariants.{Put, Delete}
-use Rattle.px_cells.specs.declared.header.Header.{Header}
 use Rattle.px_model.specs.declared.limits.TheConstants.{LONGEST_BODY}
 use Rattle.px_cells.specs.declared.slot.Slot.{Slot}
 use Rattle.px_cells.specs.declared.slot.SlotState.TheVariants.{Free, Row, Deletion}
 use Rattle.px_cells.specs.Form.{is_short, is_slot}
 use Rattle.px_free.specs.Places.{next_place, slots_of}
 use Rattle.px_chain.specs.Links.{IsStored}
+use Rattle.px_tables.specs.declared.linking.Linking.{Linking}
+use Rattle.px_tables.specs.declared.linking.Place.{Place}
 use Rattle.px_tables.specs.Held.{Cells, Held, table_of}
 use Rattle.px_tables.specs.Keys.{IsEntered}
-use Rattle.px_tables.specs.Linking.{FitsSlot, IsLink, IsPrepared, bytes_of_key, version_of}
+use Rattle.px_tables.specs.Linking.{FitsSlot, GoesTo, IsLink, IsPlaceFor, IsPrepared, bytes_of_key, version_of}
 
 pub longest_short : (short : ℕ) → IsTrue (is_short short) → short ≤ LONGEST_SHORT
 longest_short short is = leb-true short LONGEST_SHORT (and_parts _ _ is).1
@@ -54,42 +55,58 @@ used_version xn next row (Delete table key) e = deletion_free e
     deletion_free : Deletion ≡ Free → ⊥
     deletion_free e = cc
 
-row_of_version : (xn next row : ℕ) (write : Write) → (version_of xn next row write).row ≡ row
+pub row_of_version : (xn next row : ℕ) (write : Write) → (version_of xn next row write).row ≡ row
 row_of_version xn next row (Put put) = refl
 row_of_version xn next row (Delete table key) = refl
 
-next_of_version : (xn next row : ℕ) (write : Write) → (version_of xn next row write).next ≡ next
+pub next_of_version : (xn next row : ℕ) (write : Write) → (version_of xn next row write).next ≡ next
 next_of_version xn next row (Put put) = refl
 next_of_version xn next row (Delete table key) = refl
 
-key_of_version : (xn next row : ℕ) (write : Write) → (version_of xn next row write).key ≡ bytes_of_key write
+pub key_of_version : (xn next row : ℕ) (write : Write) → (version_of xn next row write).key ≡ bytes_of_key write
 key_of_version xn next row (Put put) = refl
 key_of_version xn next row (Delete table key) = refl
 
--- what `place_of` found, `reserve` made room for and `version` made
-pub prepared : (old new : Held) (header : Header) (number row next xn : ℕ) (write : Write) (key : List ℕ) (slot : Slot)
-    → new.cells ≡ old.cells → number ≡ next_place (slots_of old.cells.header)
-    → ((s : Slot) → s.row ≡ row → s.next ≡ next → s.key ≡ key → IsLink (table_of old.cells) header s)
-    → number ≤ length old.cells.slots → row ≤ length old.cells.pointers
-    → key ≡ bytes_of_key write → slot ≡ version_of xn next row write → IsTrue (is_short old.cells.short) → FitsSlot old.cells.short write
-    → length new.cells.slots < new.room.slots → length new.cells.pointers < new.room.rows → IsEntered new.room.keys key
-    → IsPrepared new (record { header = header; number = number; slot = slot })
-prepared old new header number row next xn write key slot same is link in_slots in_rows its_key made short fits slots rows entered =
-    let version = version_of xn next row write in
-    let its_row : slot.row ≡ row = ap (λ (s : Slot). s.row) made ∙ row_of_version xn next row write in
-    let its_next : slot.next ≡ next = ap (λ (s : Slot). s.next) made ∙ next_of_version xn next row write in
-    let key_is : slot.key ≡ key = ap (λ (s : Slot). s.key) made ∙ key_of_version xn next row write ∙ sym its_key in
+pub stored_version : (short xn next row : ℕ) (write : Write) → IsTrue (is_short short) → FitsSlot short write → IsStored short (version_of xn next row write)
+stored_version short xn next row write is fits = record { form = stored_form short xn next row write is fits; used = used_version xn next row write }
+
+-- what `place_of` found and `reserve` made room for
+pub placed_for : (old new : Held) (key : List ℕ) (place : Place) → new.cells ≡ old.cells → place.number ≡ next_place (slots_of old.cells.header)
+    → ((slot : Slot) → GoesTo place key slot → IsLink (table_of old.cells) place.header slot)
+    → place.number ≤ length old.cells.slots → place.row ≤ length old.cells.pointers
+    → length new.cells.slots < new.room.slots → length new.cells.pointers < new.room.rows → IsEntered new.room.keys key → IsPlaceFor new key place
+placed_for old new key place same is link in_slots in_rows slots rows entered =
     let slots_same = ap (λ (c : Cells). length c.slots) same in
     let rows_same = ap (λ (c : Cells). length c.pointers) same in
-    let stored : IsStored old.cells.short version = record { form = stored_form old.cells.short xn next row write short fits; used = used_version xn next row write } in
     record {
-      number = is ∙ ap (λ (c : Cells). next_place (slots_of c.header)) (sym same);
-      link = subst (λ (c : Cells). IsLink (table_of c) header slot) (sym same) (link slot its_row its_next key_is);
-      stored = subst (λ (c : Cells). IsStored c.short slot) (sym same) (subst (λ (s : Slot). IsStored old.cells.short s) (sym made) stored);
+      number_is = is ∙ ap (λ (c : Cells). next_place (slots_of c.header)) (sym same);
+      link = λ slot goes. subst (λ (c : Cells). IsLink (table_of c) place.header slot) (sym same) (link slot goes);
       slot_room = omega (arith, in_slots, slots, slots_same);
-      row_room = omega (arith, in_rows, rows, rows_same, its_row);
-      key_room = subst (λ (k : List ℕ). IsEntered new.room.keys k) (sym key_is) entered;
+      row_room = omega (arith, in_rows, rows, rows_same);
+      key_room = entered;
     }
+
+-- a slot that goes there is prepared
+pub linking_prepared : (held : Held) (place : Place) (slot : Slot) → slot.row ≡ place.row → slot.next ≡ place.next → IsPlaceFor held slot.key place
+    → IsStored held.cells.short slot → IsPrepared held (record { header = place.header; number = place.number; slot = slot })
+linking_prepared held place slot row next is stored = record {
+  number = is.number_is;
+  link = is.link slot (record { its_row = row; its_next = next; its_key = refl });
+  stored = stored;
+  slot_room = is.slot_room;
+  row_room = (let room = is.row_room in omega (arith, room, row));
+  key_room = is.key_room;
+}
+
+-- the version of a write is prepared where the next version of its key goes
+pub version_prepared : (old new : Held) (key : List ℕ) (place : Place) (xn : ℕ) (write : Write) (slot : Slot) (linking : Linking) → new.cells ≡ old.cells
+    → key ≡ bytes_of_key write → slot ≡ version_of xn place.next place.row write → IsTrue (is_short old.cells.short) → FitsSlot old.cells.short write
+    → IsPlaceFor new key place → ((held : Held) → IsPlaceFor held slot.key place → IsStored held.cells.short slot → IsPrepared held linking) → IsPrepared new linking
+version_prepared old new key place xn write slot linking same key_is is short fits its_place prepares =
+    let its_key : key ≡ slot.key = key_is ∙ sym (key_of_version xn place.next place.row write) ∙ ap (λ (s : Slot). s.key) (sym is) in
+    let stored : IsStored old.cells.short slot = subst (λ (s : Slot). IsStored old.cells.short s) (sym is) (stored_version old.cells.short xn place.next place.row write short fits) in
+    prepares new (subst (λ (k : List ℕ). IsPlaceFor new k place) its_key its_place)
+    (subst (λ (c : Cells). IsStored c.short slot) (sym same) stored)
 
 -- an item that was read
 pub read : {X : Type 0} (items : List X) (i : ℕ) (x d : X) → i < length items → x ≡ get_or items i x → x ≡ get_or items i d

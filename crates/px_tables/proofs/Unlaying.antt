@@ -13,12 +13,14 @@ use Rattle.px_cells.specs.Form.{is_slot}
 use Rattle.px_chain.specs.declared.chain.Linked.{Linked}
 use Rattle.px_chain.specs.declared.unlinking.Unlinked.{Unlinked}
 use Rattle.px_chain.specs.Links.{IsStored, Parts, chain_of, content_of, first_or, freed, is_emptied, parts_of, pointer_content, relinked, row_of, unlink_cells, unlinked, unlinked_header, unlinked_pointer, unlinked_slots}
+use Rattle.px_chain.specs.Places.{StandsAt}
 use Rattle.px_chain.specs.Sound.{IsSound, IsUsedRow, IsVariation, Layout, head_of, key_of, next_slot}
 use Rattle.px_chain.specs.Table.{Content, Table, laid, overlaid}
 use Rattle.px_chain.specs.Unlinked.{contents_of}
 use Rattle.px_chain.proofs.Forms.{IsFormed, IsLinkStored, all_in_order, all_unlinked}
 use Rattle.px_chain.proofs.Overlays.{laid_header, laid_pointers, row_of_gone}
 use Rattle.px_chain.proofs.SoundLink.{head_in}
+use Rattle.px_chain.proofs.Standing.{one_place}
 use Rattle.px_chain.proofs.SoundUnlink.{part_keys, part_rows, part_unlinked, parts_split}
 use Rattle.px_cells.specs.Unused.{free_pointer, unused_slot}
 use Rattle.px_tables.specs.declared.unlinking.Unlinking.{Unlinking}
@@ -112,11 +114,24 @@ put_is_laid cells unlinked in_slots in_rows =
 abbrev contents : Header → List Linked → List Content → List Content
 contents header changed pointer = Content.header_is header ∷ (map content_of changed ++ pointer)
 
-pub contents_same : (cells : Cells) (unlinked : Unlinked) (parts : Parts) → IsUnlinkOf cells unlinked parts → contents_of unlinked ≡ unlink_cells cells.header parts
+contents_same : (cells : Cells) (unlinked : Unlinked) (parts : Parts) → IsUnlinkOf cells unlinked parts → contents_of unlinked ≡ unlink_cells cells.header parts
 contents_same cells unlinked parts is =
     ap (λ (h : Header). contents h unlinked.slots.items (pointer_content unlinked.pointer)) is.header
     ∙ ap (λ (s : List Linked). contents (unlinked_header cells.header parts) s (pointer_content unlinked.pointer)) is.slots
     ∙ ap (λ (p : List Content). contents (unlinked_header cells.header parts) (unlinked_slots cells.header parts) p) is.pointer
+
+-- the first slot stands at one place
+placed_at : (cells : Cells) (unlinking : Unlinking) (is : IsUnlink cells unlinking) (layout : Layout) (from : ℕ) → HasLayout cells layout
+    → StandsAt (layout.chain unlinking.row) from unlinking.first → is.from ≡ from
+placed_at cells unlinking is layout from sound stands =
+    one_place cells.short (table_of cells) layout unlinking.row is.from from unlinking.first sound (is.stands layout sound) stands
+
+pub contents_at : (cells : Cells) (unlinking : Unlinking) (is : IsUnlink cells unlinking) (layout : Layout) (from : ℕ) → HasLayout cells layout
+    → StandsAt (layout.chain unlinking.row) from unlinking.first
+    → contents_of unlinking.unlinked ≡ unlink_cells cells.header (parts_in cells layout unlinking.row from unlinking.count)
+contents_at cells unlinking is layout from sound stands =
+    contents_same cells unlinking.unlinked (parts_in cells layout unlinking.row is.from unlinking.count) (is.unlink layout sound)
+    ∙ ap (λ (n : ℕ). unlink_cells cells.header (parts_in cells layout unlinking.row n unlinking.count)) (placed_at cells unlinking is layout from sound stands)
 
 pointer_row : (header : Header) (before gone behind : List Linked) (changed : Option (ℕ × Pointer))
     → pointer_content changed ≡ unlinked_pointer header (record { before = before; gone = gone; behind = behind }) → IfSome changed (λ named. named.0 ≡ row_of gone)
@@ -190,7 +205,7 @@ numbers_within {cells} unlinking kept is =
     let Q : ℕ → Type 0 = IsWithin (length cells.slots) in
     let all : All Q chain = All-weaker (IsVariation table unlinking.row) Q (λ n v. let p = v.place in (p.0, omega (arith, p.1, len))) chain (kept.sound.chains unlinking.row is.used).variations in
     subst (λ (l : List Linked). All (λ m. Q m.number) l) (sym (is.unlink kept.layout kept.sound).slots)
-    (of_changed Q cells.header (chain_of table chain) unlinking.from unlinking.count (All-map (λ (m : Linked). Q m.number) (λ n. record { number = n; slot = table.slot n }) chain all))
+    (of_changed Q cells.header (chain_of table chain) is.from unlinking.count (All-map (λ (m : Linked). Q m.number) (λ n. record { number = n; slot = table.slot n }) chain all))
 
 pub slots_within : {cells : Cells} {keys : List (List ℕ × ℕ)} (unlinking : Unlinking) → IsKept cells keys → IsUnlink cells unlinking
     → All (λ l. l.number < length cells.slots) unlinking.unlinked.slots.items
@@ -200,8 +215,8 @@ slots_within {cells} unlinking kept is =
 pointer_is_row : {cells : Cells} {keys : List (List ℕ × ℕ)} (unlinking : Unlinking) → IsKept cells keys → IsUnlink cells unlinking
     → IfSome unlinking.unlinked.pointer (λ named. named.0 ≡ unlinking.row)
 pointer_is_row {cells} unlinking kept is =
-    let parts = parts_in cells kept.layout unlinking.row unlinking.from unlinking.count in
-    let row : row_of parts.gone ≡ unlinking.row = gone_row cells kept.layout unlinking.row unlinking.from unlinking.count kept.sound is.used is.some (is.within kept.layout kept.sound) in
+    let parts = parts_in cells kept.layout unlinking.row is.from unlinking.count in
+    let row : row_of parts.gone ≡ unlinking.row = gone_row cells kept.layout unlinking.row is.from unlinking.count kept.sound is.used is.some (is.within kept.layout kept.sound) in
     of_row unlinking.unlinked.pointer (row_of parts.gone) unlinking.row row
     (pointer_row cells.header parts.before parts.gone parts.behind unlinking.unlinked.pointer (is.unlink kept.layout kept.sound).pointer)
   where
@@ -233,18 +248,21 @@ head_within {cells} row kept used =
 
 -- ---- the cells over the table
 
-pub unlaid_is : {cells : Cells} {keys : List (List ℕ × ℕ)} (unlinking : Unlinking) → IsKept cells keys → IsUnlink cells unlinking → (layout : Layout) → HasLayout cells layout
-    → table_of (unlinked_cells cells unlinking.unlinked) ≡ laid (table_of cells) (unlink_cells cells.header (parts_in cells layout unlinking.row unlinking.from unlinking.count))
-unlaid_is {cells} unlinking kept is layout sound =
-    let parts = parts_in cells layout unlinking.row unlinking.from unlinking.count in
+pub unlaid_is : {cells : Cells} {keys : List (List ℕ × ℕ)} (unlinking : Unlinking) → IsKept cells keys → IsUnlink cells unlinking → (layout : Layout) (from : ℕ) → HasLayout cells layout
+    → StandsAt (layout.chain unlinking.row) from unlinking.first
+    → table_of (unlinked_cells cells unlinking.unlinked) ≡ laid (table_of cells) (unlink_cells cells.header (parts_in cells layout unlinking.row from unlinking.count))
+unlaid_is {cells} unlinking kept is layout from sound stands =
     put_is_laid cells unlinking.unlinked (slots_within unlinking kept is) (pointer_within unlinking kept is)
-    ∙ ap (laid (table_of cells)) (contents_same cells unlinking.unlinked parts (is.unlink layout sound))
+    ∙ ap (laid (table_of cells)) (contents_at cells unlinking is layout from sound stands)
 
-pub unlaid_layout : {cells : Cells} {keys : List (List ℕ × ℕ)} (unlinking : Unlinking) → IsKept cells keys → IsUnlink cells unlinking → (layout : Layout) → HasLayout cells layout
-    → HasLayout (unlinked_cells cells unlinking.unlinked) (unlinked layout unlinking.row unlinking.from unlinking.count)
-unlaid_layout {cells} unlinking kept is layout sound =
-    subst (λ (t : Table). IsSound cells.short t (unlinked layout unlinking.row unlinking.from unlinking.count)) (sym (unlaid_is unlinking kept is layout sound))
-    (part_unlinked cells.short (table_of cells) layout unlinking.row unlinking.from unlinking.count sound is.used is.some (is.within layout sound))
+pub unlaid_layout : {cells : Cells} {keys : List (List ℕ × ℕ)} (unlinking : Unlinking) → IsKept cells keys → IsUnlink cells unlinking → (layout : Layout) (from : ℕ) → HasLayout cells layout
+    → StandsAt (layout.chain unlinking.row) from unlinking.first
+    → HasLayout (unlinked_cells cells unlinking.unlinked) (unlinked layout unlinking.row from unlinking.count)
+unlaid_layout {cells} unlinking kept is layout from sound stands =
+    let place = placed_at cells unlinking is layout from sound stands in
+    subst (λ (t : Table). IsSound cells.short t (unlinked layout unlinking.row from unlinking.count)) (sym (unlaid_is unlinking kept is layout from sound stands))
+    (part_unlinked cells.short (table_of cells) layout unlinking.row from unlinking.count sound is.used is.some
+    (subst (λ (n : ℕ). n + unlinking.count ≤ length (layout.chain unlinking.row)) place (is.within layout sound)))
 
 -- ---- the keys
 
@@ -299,14 +317,14 @@ kept_unlaid {cells} {keys} named unlinking kept is at others =
     let table = table_of cells in
     let layout = kept.layout in
     let row = unlinking.row in
-    let from = unlinking.from in
+    let from = is.from in
     let count = unlinking.count in
     let pointer = unlinking.unlinked.pointer in
     let parts = parts_in cells layout row from count in
     let change = is.unlink layout kept.sound in
     let within = is.within layout kept.sound in
     let other = laid table (unlink_cells cells.header parts) in
-    let same = unlaid_is unlinking kept is layout kept.sound in
+    let same = unlaid_is unlinking kept is layout from kept.sound (is.stands layout kept.sound) in
     let given : is_given_back pointer ≡ is_emptied parts = pointer_given cells.header parts.before parts.gone parts.behind pointer change.pointer in
     let slots_same : unlinking.unlinked.header.slots ≡ cells.header.slots = ap (λ (h : Header). h.slots) change.header in
     let rows_same : unlinking.unlinked.header.rows ≡ cells.header.rows = ap (λ (h : Header). h.rows) change.header in
@@ -318,7 +336,7 @@ kept_unlaid {cells} {keys} named unlinking kept is at others =
       slots = length_slots unlinking.unlinked.slots.items cells.slots ∙ kept.slots ∙ ap (λ (n : ℕ). n + 1) (sym slots_same);
       pointers = length_pointers pointer cells.pointers ∙ kept.pointers ∙ ap (λ (n : ℕ). n + 1) (sym rows_same);
       layout = unlinked layout row from count;
-      sound = unlaid_layout unlinking kept is layout kept.sound;
+      sound = unlaid_layout unlinking kept is layout from kept.sound (is.stands layout kept.sound);
       are_keys = subst (λ (t : Table). AreKeys t named) (sym same) (keys_left table other row keys named (is_emptied parts) kept.are_keys is.used
           (λ q q_used alike. kept.sound.keys q row q_used is.used alike)
           (λ q. part_rows cells.short table layout row from count q kept.sound is.used is.some within)
@@ -338,7 +356,7 @@ unlinked_form {cells} unlinking kept is =
     let all : All IsHeld chain = All-weaker (IsVariation table unlinking.row) IsHeld (λ n v. record { form = kept.sound.form n v.place; used = v.used }) chain
     (kept.sound.chains unlinking.row is.used).variations in
     subst (λ (l : List Linked). All (IsFormed cells.short) l) (sym (is.unlink kept.layout kept.sound).slots)
-    (all_unlinked cells.short cells.header (chain_of table chain) unlinking.from unlinking.count
+    (all_unlinked cells.short cells.header (chain_of table chain) is.from unlinking.count
     (All-map (IsLinkStored cells.short) (λ n. record { number = n; slot = table.slot n }) chain all))
 
 pub length_chain : (table : Table) (chain : List ℕ) → length (chain_of table chain) ≡ length chain

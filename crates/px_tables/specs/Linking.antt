@@ -10,6 +10,7 @@ use Rattle.px_free.specs.Places.{AreFull, next_place, rows_of, slots_of}
 use Rattle.px_chain.specs.Links.{BeginsRow, IsStored, VariesRow}
 use Rattle.px_chain.specs.Table.{Table}
 use Rattle.px_tables.specs.declared.linking.Linking.{Linking}
+use Rattle.px_tables.specs.declared.linking.Place.{Place}
 use Rattle.px_tables.specs.Held.{Held, table_of}
 use Rattle.px_tables.specs.Keys.{HasNoRow, IsEntered}
 
@@ -39,6 +40,20 @@ IsFull table key = AreFull (slots_of table.header) ⊎ (AreFull (rows_of table.h
 -- the slot begins a row, or is another version of one
 abbrev pub IsLink : Table → Header → Slot → Type 0
 IsLink table header slot = BeginsRow table header slot ⊎ VariesRow table header slot
+
+-- the slot has the links of the place, and the key
+pub record GoesTo (place : Place) (key : List ℕ) (slot : Slot) : Type 0 where
+  pub its_row : slot.row ≡ place.row
+  pub its_next : slot.next ≡ place.next
+  pub its_key : slot.key ≡ key
+
+-- the next version of the key goes to this place of what is held, and there is memory for it
+pub record IsPlaceFor (held : Held) (key : List ℕ) (place : Place) : Type 0 where
+  pub number_is : place.number ≡ next_place (slots_of held.cells.header)
+  pub link : (slot : Slot) → GoesTo place key slot → IsLink (table_of held.cells) place.header slot
+  pub slot_room : place.number < held.room.slots
+  pub row_room : place.row < held.room.rows
+  pub key_room : IsEntered held.room.keys key
 
 -- the linking goes onto what is held, and there is memory for it
 pub record IsPrepared (held : Held) (linking : Linking) : Type 0 where

@@ -1,10 +1,11 @@
 -- What prepares that versions go, and what laying it needs.
-use Rattle.std.specs.Prelude.{◌≡◌, ℕ, ◌+◌, ◌≤◌, Bool, false, not, List, Option, Some, None, fold, length, slice_set}
+use Rattle.std.specs.Prelude.{◌≡◌, ℕ, ◌+◌, ◌≤◌, Bool, false, not, List, Option, Some, None, drop, fold, length, slice_set, take}
 use Rattle.px_cells.specs.declared.pointer.Pointer.{Pointer}
 use Rattle.px_cells.specs.declared.slot.Slot.{Slot}
 use Rattle.px_chain.specs.declared.chain.Linked.{Linked}
 use Rattle.px_chain.specs.declared.unlinking.Unlinked.{Unlinked}
 use Rattle.px_chain.specs.Links.{Parts, chain_of, parts_of, pointer_content, unlinked_header, unlinked_pointer, unlinked_slots}
+use Rattle.px_chain.specs.Places.{StandsAt, slot_in}
 use Rattle.px_chain.specs.Sound.{IsUsedRow, Layout}
 use Rattle.px_tables.specs.declared.unlinking.Unlinking.{Unlinking}
 use Rattle.px_tables.specs.Held.{Cells, HasLayout, table_of}
@@ -19,12 +20,19 @@ pub record IsUnlinkOf (cells : Cells) (unlinked : Unlinked) (parts : Parts) : Ty
   pub slots : unlinked.slots.items ≡ unlinked_slots cells.header parts
   pub pointer : pointer_content unlinked.pointer ≡ unlinked_pointer cells.header parts
 
--- the unlinking is one of versions of these cells
+-- The unlinking is one of versions of these cells: from a place of the row's chain on, where its first slot stands.
 pub record IsUnlink (cells : Cells) (unlinking : Unlinking) : Type 0 where
+  pub from : ℕ
   pub used : IsUsedRow (table_of cells) unlinking.row
   pub some : 1 ≤ unlinking.count
-  pub within : (layout : Layout) → HasLayout cells layout → unlinking.from + unlinking.count ≤ length (layout.chain unlinking.row)
-  pub unlink : (layout : Layout) → HasLayout cells layout → IsUnlinkOf cells unlinking.unlinked (parts_in cells layout unlinking.row unlinking.from unlinking.count)
+  pub stands : (layout : Layout) → HasLayout cells layout → StandsAt (layout.chain unlinking.row) from unlinking.first
+  pub within : (layout : Layout) → HasLayout cells layout → from + unlinking.count ≤ length (layout.chain unlinking.row)
+  pub unlink : (layout : Layout) → HasLayout cells layout → IsUnlinkOf cells unlinking.unlinked (parts_in cells layout unlinking.row from unlinking.count)
+
+-- the slots were read that stand in the row's chain from a place on, and the number of the one behind them, 0 where none is
+pub record AreRead (cells : Cells) (chain : List ℕ) (from count : ℕ) (gone : List Linked) (behind : ℕ) : Type 0 where
+  pub gone_are : gone ≡ chain_of (table_of cells) (take count (drop from chain))
+  pub behind_is : behind ≡ slot_in chain (from + count)
 
 -- the row pointer is given back
 abbrev pub is_given_back : Option (ℕ × Pointer) → Bool

@@ -6,21 +6,23 @@
 //!
 //! - `table`: `Table`. `table/opening` makes one of cells that were read and found sound. `table/reading` finds a key's row and
 //!   its versions; `table/linking` prepares and lays a new version, `table/unlinking` that versions go.
-//! - `linking`, `unlinking`: `Linking` and `Unlinking`, what is prepared. `versions`: `Versions`, the walk along a chain.
-//! - `keys`: the rows that keys name. `places`: lists in which a cell stands at its number.
+//! - `linking`, `unlinking`: `Place`, where a key's next version goes; `Linking` and `Unlinking`, what is prepared. `versions`: `Versions`, the walk along a chain.
+//! - `laws`: a version that fits a slot is stored. `keys`: the rows that keys name. `places`: lists in which a cell stands at its number.
 //!
 //! `specs/Held` says what a table holds, `specs/Linking` and `specs/Unlinking` what is prepared; what cells are and when they are sound is said in
 //! `px_chain`.
 #![tactic(auto)]
 
 mod keys;
+mod laws;
 mod linking;
 mod places;
 mod table;
 mod unlinking;
 mod versions;
 
-pub use linking::Linking;
+pub use laws::a_version_that_fits_is_stored;
+pub use linking::{Linking, Place};
 pub use table::Table;
 pub use unlinking::Unlinking;
 pub use versions::Versions;

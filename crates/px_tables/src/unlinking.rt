@@ -4,8 +4,8 @@ use px_chain::Unlinked;
 #[derive(Debug, Drop)]
 pub struct Unlinking {
     pub row: u32,
-    /// The place of the newest of them in the row's chain, where 0 is the newest of all, and how many they are.
-    pub from: u32,
+    /// The slot of the newest of them, and how many they are.
+    pub first: u32,
     pub count: u32,
     pub unlinked: Unlinked,
 }

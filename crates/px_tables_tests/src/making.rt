@@ -1,6 +1,5 @@
-ghost use Rattle.std.specs.Prelude.{◌≡◌, ◌≤◌, length, true};
-ghost use Rattle.px_chain.specs.Sound.{IsUsedRow, Layout};
-ghost use Rattle.px_tables.specs.Held.{HasLayout, table_of};
+ghost use Rattle.std.specs.Prelude.{◌≡◌, ◌<◌, ◌≤◌, length, true};
+ghost use Rattle.px_chain.specs.Places.{slot_before};
 ghost use Rattle.px_tables.specs.Linking.{FitsSlot};
 ghost use Rattle.px_model.specs.declared.limits.TheConstants.{LONGEST_KEY};
 ghost use Rattle.px_tables_tests.specs.declared.making.TheConstants.{SHORT};
@@ -99,25 +98,28 @@ impl ShortTable {
         count: u32,
     ) -> Result<CellList, Fail> {
         let row = self.table.row_of(key).ok_or("there is no such row")?;
+        let slots = self.table.slots_of(row)?;
         assert!(rt; 1 <= count);
-        assert!(rt; u64::from(from) + u64::from(count) <= chain_length(&self.table, row));
-        let unlinking = self.table.prepare_unlink(row, from, count)?;
+        assert!(rt; u64::from(from) + u64::from(count) <= slots.len() as u64);
+        let newer = slot_before(slots.as_slice(), from);
+        let unlinking = self
+            .table
+            .prepare_unlink(row, newer, slots[from as usize], count)?;
         let cells = self.table.cells_unlinked(&unlinking)?;
         self.table.lay_unlinked(unlinking);
         Ok(cells)
     }
 }
 
-/// How many versions a row has.
-fn chain_length(table: &Table, row: u32) -> u64
-    requires { IsUsedRow (table_of table.now.cells) row }
-    ensures { (layout : Layout) → HasLayout table.now.cells layout → result ≤ length (layout.chain row) }
+/// The slot in front of a place of a chain, 0 where none is.
+fn slot_before(slots: &[u32], place: u32) -> u32
+    requires { place < length slots.now }
+    ensures { result ≡ slot_before slots.now place }
 {
-    let mut count: u64 = 0;
-    for _ in table.versions(row) {
-        count = count.saturating_add(1);
+    if place == 0 {
+        return 0;
     }
-    count
+    slots[place as usize - 1]
 }
 
 /// Whether the walk along the chain of the key meets just these versions, the newest first. A key without versions has

@@ -89,35 +89,30 @@ pub kept_of_row : (done : Done) (table : Table) (layout : Layout) (row : ℕ) (w
 kept_of_row done table layout row walked result is same =
     is ∙ ap (λ (l : List Linked). place_kept done (map slot_of l)) same ∙ ap (place_kept done) (slots_walked table (layout.chain row))
 
--- a walk that met so many and is at its end
-pub counted_of_row : (table : Table) (layout : Layout) (row count : ℕ) (left all : List Linked) → left ≡ [] → count + length left ≡ length all
-    → all ≡ chain_of table (layout.chain row) → count ≡ length (layout.chain row)
-counted_of_row table layout row count left all none counted same =
-    let empty : length left ≡ 0 = ap length none in
-    let many = count_walked table (layout.chain row) all same in
-    omega (arith, empty, counted, many)
-
 -- ---- the places of those that go
 
 -- one place fewer is left
-pub one_more : (P : ℕ → Bool) (old new all : List ℕ) (place : ℕ) → 0 < place → new ≡ cond (P (place - 1)) (old ++ (place - 1) ∷ []) old
-    → old ++ filter P (oldest_first place) ≡ all → new ++ filter P (oldest_first (place - 1)) ≡ all
-one_more P old new all zero some pushed so_far = absurd (omega (arith, some))
-one_more P old new all (suc place) some pushed so_far =
+pub one_more : {X : Type 0} (at : ℕ → X) (P : ℕ → Bool) (old new all : List X) (place : ℕ) → 0 < place → new ≡ cond (P (place - 1)) (old ++ at (place - 1) ∷ []) old
+    → old ++ map at (filter P (oldest_first place)) ≡ all → new ++ map at (filter P (oldest_first (place - 1))) ≡ all
+one_more at P old new all zero some pushed so_far = absurd (omega (arith, some))
+one_more {X} at P old new all (suc place) some pushed so_far =
     let one : suc place - 1 ≡ place = omega arith in
-    let is : new ≡ cond (P place) (old ++ place ∷ []) old = subst (λ n. new ≡ cond (P n) (old ++ n ∷ []) old) one pushed in
-    ap (λ n. new ++ filter P (oldest_first n)) one ∙ ap (λ (l : List ℕ). l ++ filter P (oldest_first place)) is ∙ either (P place) ∙ so_far
+    let is : new ≡ cond (P place) (old ++ at place ∷ []) old = subst (λ n. new ≡ cond (P n) (old ++ at n ∷ []) old) one pushed in
+    ap (λ n. new ++ map at (filter P (oldest_first n))) one ∙ ap (λ (l : List X). l ++ map at (filter P (oldest_first place))) is ∙ either (P place) ∙ so_far
   where
-    either : (b : Bool) → cond b (old ++ place ∷ []) old ++ filter P (oldest_first place) ≡ old ++ cond b (place ∷ filter P (oldest_first place)) (filter P (oldest_first place))
-    either true = append_assoc old (place ∷ []) (filter P (oldest_first place))
+    either : (b : Bool) → cond b (old ++ at place ∷ []) old ++ map at (filter P (oldest_first place))
+        ≡ old ++ map at (cond b (place ∷ filter P (oldest_first place)) (filter P (oldest_first place)))
+    either true = append_assoc old (at place ∷ []) (map at (filter P (oldest_first place)))
     either false = refl
 
-pub all_pushed : (done : Done) (table : Table) (layout : Layout) (row : ℕ) (kept : Option ℕ) (places : List ℕ) (place count : ℕ) → place ≤ 0
-    → places ++ filter (is_other kept) (oldest_first place) ≡ filter (is_other kept) (oldest_first count)
-    → kept ≡ place_kept done (slots_of_row table layout row) → count ≡ length (layout.chain row) → places ≡ tidied_away done (slots_of_row table layout row)
-all_pushed done table layout row kept places place count none so_far is counted =
+pub all_pushed : {X : Type 0} (at : List ℕ → ℕ → X) (done : Done) (table : Table) (layout : Layout) (row : ℕ) (kept : Option ℕ) (pushed : List X) (place : ℕ) (chain : List ℕ)
+    → place ≤ 0 → pushed ++ map (at chain) (filter (is_other kept) (oldest_first place)) ≡ map (at chain) (filter (is_other kept) (oldest_first (length chain)))
+    → kept ≡ place_kept done (slots_of_row table layout row) → chain ≡ layout.chain row
+    → pushed ≡ map (at (layout.chain row)) (tidied_away done (slots_of_row table layout row))
+all_pushed {X} at done table layout row kept pushed place chain none so_far is chain_is =
     let zeroth : place ≡ 0 = omega (arith, none) in
-    let length_is : count ≡ length (slots_of_row table layout row) = counted ∙ sym (length-map (layout.chain row) table.slot) in
-    sym (append-nil places) ∙ ap (λ n. places ++ filter (is_other kept) (oldest_first n)) (sym zeroth) ∙ so_far
-    ∙ ap (λ n. filter (is_other kept) (oldest_first n)) length_is
-    ∙ ap (λ (k : Option ℕ). filter (is_other k) (oldest_first (length (slots_of_row table layout row)))) is
+    let length_is : length chain ≡ length (slots_of_row table layout row) = ap length chain_is ∙ sym (length-map (layout.chain row) table.slot) in
+    sym (append-nil pushed) ∙ ap (λ n. pushed ++ map (at chain) (filter (is_other kept) (oldest_first n))) (sym zeroth) ∙ so_far
+    ∙ ap (λ n. map (at chain) (filter (is_other kept) (oldest_first n))) length_is
+    ∙ ap (λ (k : Option ℕ). map (at chain) (filter (is_other k) (oldest_first (length (slots_of_row table layout row))))) is
+    ∙ ap (λ (l : List ℕ). map (at l) (tidied_away done (slots_of_row table layout row))) chain_is

@@ -6,7 +6,7 @@
 //! by row, and within a chain the oldest first, so that no older version shows in between.
 //!
 //! - `done`: `Done`, the stored numbers that are done.
-//! - `tidying`: `places_to_tidy`, the versions of a row that go; `next_row`, the used rows in their order.
+//! - `tidying`: `versions_to_tidy`, the versions of a row that go, each an `Unneeded`; `next_row`, the used rows in their order.
 //! - `laws`: the unlinks of these versions may follow one after the other, leave each row that has one with a single version, and
 //!   show the same rows.
 //!
@@ -23,4 +23,4 @@ pub use laws::{
     a_row_is_tidied, a_store_is_tidied, a_table_is_tidied, each_step_may_follow,
     rows_between_have_no_steps, tidying_shows_the_same,
 };
-pub use tidying::{next_row, places_to_tidy};
+pub use tidying::{Unneeded, next_row, versions_to_tidy};

@@ -1,9 +1,11 @@
-ghost use Rattle.std.specs.Prelude.{◌≡◌, ◌<◌, ◌^◌, [], ◌∷◌, ◌++◌, None, Some, IfOk, MatchOption, OnOk, if◌then◌else◌, length};
+ghost use Rattle.std.specs.Prelude.{◌≡◌, ◌<◌, ◌^◌, [], ◌∷◌, ◌++◌, None, Some, IfOk, MatchOption, OnOk, if◌then◌else◌, length, map};
+ghost use Rattle.px_chain.specs.Places.{slot_before};
 ghost use Rattle.px_chain.specs.Sound.{IsUsedRow, Layout};
 ghost use Rattle.px_shown.specs.Tables.{slots_of_row};
 ghost use Rattle.px_tables.specs.Held.{HasLayout, table_of};
 ghost use Rattle.px_tidy.specs.Kept.{is_other, is_row, place_kept, tidied_away};
 ghost use Rattle.px_tidy.specs.Numbers.{done_of};
+ghost use Rattle.px_tidy.specs.Unneeded.{unneeded_at};
 ghost use Rattle.px_tidy.specs.Rows.{HasNoRowPast, IsNextRow};
 
 use crate::done::Done;
@@ -11,45 +13,74 @@ use px_cells::SlotState;
 use px_tables::Table;
 use std::alloc::{AllocError, Global};
 
-/// The places of the versions of a row that go, where 0 is the newest: all but that of the newest one that is done, and that
-/// one too where it is a deletion. The oldest comes first, and in this order they are to be unlinked. It fails only for want
-/// of memory.
-pub fn places_to_tidy(
+/// A version of a row that goes.
+#[derive(Clone, Copy, Debug, PartialEq, Eq)]
+pub struct Unneeded {
+    pub slot: u32,
+    /// The slot in front of it in the row's chain, 0 where there is none.
+    pub newer: u32,
+}
+
+/// The versions of a row that go: all but the newest one that is done, and that one too where it is a deletion. The oldest
+/// comes first, and in this order they are to be unlinked, so that of each the slot in front is still there. It takes one walk
+/// along the chain, and fails only for want of memory.
+pub fn versions_to_tidy(
     alloc: Global,
     table: &Table,
     row: u32,
     done: &Done,
-) -> Result<Vec<u32>, AllocError>
+) -> Result<Vec<Unneeded>, AllocError>
     requires { IsUsedRow (table_of table.now.cells) row }
-    ensures { IfOk result (λ places. (layout : Layout) → HasLayout table.now.cells layout
-        → places.items ≡ tidied_away (done_of done.now) (slots_of_row (table_of table.now.cells) layout row)) }
+    ensures { IfOk result (λ versions. (layout : Layout) → HasLayout table.now.cells layout
+        → versions.items ≡ map (unneeded_at (layout.chain row)) (tidied_away (done_of done.now) (slots_of_row (table_of table.now.cells) layout row))) }
 {
     let kept = place_kept(table, row, done);
-    let mut places = Vec::new(alloc);
-    for place in (0..version_count(table, row)).rev() {
-        push_other(&mut places, place, kept)?;
+    let chain = table.slots_of(row)?;
+    let mut versions = Vec::new(alloc);
+    for place in (0..chain.len()).rev() {
+        push_other(&mut versions, chain.as_slice(), place, kept)?;
     }
-    Ok(places)
+    Ok(versions)
 }
 
-/// Appends the place, where it isn't that of the version that stays.
-fn push_other(places: &mut Vec<u32>, place: u32, kept: Option<u32>) -> Result<(), AllocError>
-    ensures { OnOk result (places.new.items ≡ (if is_other kept place then places.old.items ++ place ∷ [] else places.old.items)) }
+/// Appends the version at the place, where it isn't the one that stays.
+fn push_other(
+    versions: &mut Vec<Unneeded>,
+    chain: &[u32],
+    place: usize,
+    kept: Option<usize>,
+) -> Result<(), AllocError>
+    requires { place < length chain.now }
+    ensures { OnOk result (versions.new.items ≡ (if is_other kept place then versions.old.items ++ unneeded_at chain.now place ∷ [] else versions.old.items)) }
 {
     if kept != Some(place) {
-        places.push(place)?;
+        versions.push(Unneeded {
+            slot: chain[place],
+            newer: slot_before(chain, place),
+        })?;
     }
     Ok(())
 }
 
+/// The slot in front of a place, 0 where none is.
+fn slot_before(chain: &[u32], place: usize) -> u32
+    requires { place < length chain.now }
+    ensures { result ≡ slot_before chain.now place }
+{
+    if place == 0 {
+        return 0;
+    }
+    chain[place - 1]
+}
+
 /// The place of the version that stays: the newest that is done, where it is a row.
-fn place_kept(table: &Table, row: u32, done: &Done) -> Option<u32>
+fn place_kept(table: &Table, row: u32, done: &Done) -> Option<usize>
     requires { IsUsedRow (table_of table.now.cells) row }
     ensures { (layout : Layout) → HasLayout table.now.cells layout
         → result ≡ place_kept (done_of done.now) (slots_of_row (table_of table.now.cells) layout row) }
 {
     chain_fits(table, row);
-    let mut place: u32 = 0;
+    let mut place: usize = 0;
     for (_, slot) in table.versions(row) {
         if done.is_done(slot.xn) {
             return if_row(slot.state, place);
@@ -59,26 +90,13 @@ fn place_kept(table: &Table, row: u32, done: &Done) -> Option<u32>
     None
 }
 
-fn if_row(state: SlotState, place: u32) -> Option<u32>
+fn if_row(state: SlotState, place: usize) -> Option<usize>
     ensures { result ≡ (if is_row state then Some place else None) }
 {
     match state {
         SlotState::Row => Some(place),
         SlotState::Free | SlotState::Deletion => None,
     }
-}
-
-/// How many versions a row has.
-fn version_count(table: &Table, row: u32) -> u32
-    requires { IsUsedRow (table_of table.now.cells) row }
-    ensures { (layout : Layout) → HasLayout table.now.cells layout → result ≡ length (layout.chain row) }
-{
-    chain_fits(table, row);
-    let mut count = 0;
-    for _version in table.versions(row) {
-        count += 1;
-    }
-    count
 }
 
 /// A chain has no more versions than the table has slots.

@@ -1,11 +1,11 @@
 use crate::making::{ShortTable, Version, done};
-use px_tidy::{next_row, places_to_tidy};
+use px_tidy::{next_row, versions_to_tidy};
 use std::test::Fail;
 
 /// The versions of a key, the oldest first, and the places of those that go.
 struct Case {
     versions: &'static [Version],
-    places: &'static [u32],
+    places: &'static [usize],
 }
 
 const CASES: [Case; 11] = [
@@ -71,8 +71,22 @@ fn all_go_but_the_newest_row_that_is_done(rt: HostRuntime) -> Result<(), Fail> {
             short.link(alloc, b'k', *version)?;
         }
         let row = next_row(&short.table, 0).ok_or("there is no row")?;
-        let places = places_to_tidy(alloc, &short.table, row, &done)?;
-        assert_eq!(rt; places.as_slice(), case.places);
+        let slots = short.table.slots_of(row)?;
+        let mut places = case.places.iter();
+        for version in &versions_to_tidy(alloc, &short.table, row, &done)? {
+            let place = *places.next().ok_or("one version too many goes")?;
+            assert_eq!(rt; slots.as_slice().get(place), Some(&version.slot));
+            assert_eq!(rt; version.newer, slot_before(slots.as_slice(), place));
+        }
+        assert!(rt; places.next().is_none());
     }
     Ok(())
+}
+
+/// The slot in front of a place of a chain, 0 where none is.
+fn slot_before(slots: &[u32], place: usize) -> u32 {
+    match place.checked_sub(1) {
+        Some(before) => slots.get(before).copied().unwrap_or(0),
+        None => 0,
+    }
 }

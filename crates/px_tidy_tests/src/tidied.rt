@@ -1,10 +1,11 @@
-ghost use Rattle.std.specs.Prelude.{◌≤◌, length};
-ghost use Rattle.px_chain.specs.Sound.{IsUsedRow, Layout};
-ghost use Rattle.px_tables.specs.Held.{HasLayout, table_of};
+ghost use Rattle.std.specs.Prelude.{◌≡◌, ◌<◌, IfSome, length};
+ghost use Rattle.px_chain.specs.Places.{StandsAt, slot_before};
+ghost use Rattle.px_chain.specs.Sound.{IsUsedRow};
+ghost use Rattle.px_tables.specs.Held.{table_of};
 
 use crate::making::{ShortTable, Version, done};
 use px_tables::Table;
-use px_tidy::{Done, next_row, places_to_tidy};
+use px_tidy::{Done, Unneeded, next_row, versions_to_tidy};
 use std::alloc::Global;
 use std::process::Abort;
 use std::test::Fail;
@@ -48,26 +49,34 @@ fn row_text(alloc: Global, table: &Table, row: u32) -> Result<String, Fail>
     Ok(text)
 }
 
-/// How many versions a row has.
-fn chain_length(table: &Table, row: u32) -> u64
-    requires { IsUsedRow (table_of table.now.cells) row }
-    ensures { (layout : Layout) → HasLayout table.now.cells layout → result ≤ length (layout.chain row) }
-{
-    let mut count: u64 = 0;
-    for _version in table.versions(row) {
-        count = count.saturating_add(1);
-    }
-    count
-}
-
-/// Unlinks the version at a place of the row that is the next one past `after`.
-fn unlink(rt: &impl Abort, table: &mut Table, after: u32, place: u32) -> Result<(), Fail> {
+/// Unlinks a version of the row that is the next one past `after`.
+fn unlink(rt: &impl Abort, table: &mut Table, after: u32, version: Unneeded) -> Result<(), Fail> {
     let row = next_row(table, after).ok_or("there is no row")?;
-    assert!(rt; u64::from(place) < chain_length(table, row));
-    let unlinking = table.prepare_unlink(row, place, 1)?;
+    let slots = table.slots_of(row)?;
+    let place = place_of(slots.as_slice(), version.slot).ok_or("the slot isn't in the chain")?;
+    assert_eq!(rt; version.newer, slot_before(slots.as_slice(), place));
+    let unlinking = table.prepare_unlink(row, version.newer, version.slot, 1)?;
     let _cells = table.cells_unlinked(&unlinking)?;
     table.lay_unlinked(unlinking);
     Ok(())
+}
+
+/// The place of a slot in a chain.
+fn place_of(slots: &[u32], slot: u32) -> Option<usize>
+    ensures { IfSome result (λ place. StandsAt slots.now place slot) }
+{
+    slots.iter().position(|&other| other == slot)
+}
+
+/// The slot in front of a place of a chain, 0 where none is.
+fn slot_before(slots: &[u32], place: usize) -> u32
+    requires { place < length slots.now }
+    ensures { result ≡ slot_before slots.now place }
+{
+    if place == 0 {
+        return 0;
+    }
+    slots[place - 1]
 }
 
 /// Tidies the next row past `after`, and answers it.
@@ -81,9 +90,8 @@ fn tidy_next(
     let Some(row) = next_row(table, after) else {
         return Ok(None);
     };
-    let places = places_to_tidy(alloc, table, row, done)?;
-    for place in &places {
-        unlink(rt, table, after, *place)?;
+    for version in &versions_to_tidy(alloc, table, row, done)? {
+        unlink(rt, table, after, *version)?;
     }
     Ok(Some(row))
 }

@@ -1,6 +1,5 @@
 ghost use Rattle.std.specs.Prelude.{◌≡◌, ◌<◌, ◌≤◌, ◌↔◌, IfOk, IfSome, IsNone, IsTrue, OnOk, length, map};
 ghost use Rattle.px_cells.specs.Form.{is_short};
-ghost use Rattle.px_model.specs.declared.limits.TheConstants.{LONGEST_SHORT};
 ghost use Rattle.px_cells.specs.declared.slot.Slot.{Slot};
 ghost use Rattle.px_free.specs.Places.{next_place, slots_of};
 ghost use Rattle.px_chain.specs.Cells.{cell_of};
@@ -9,25 +8,16 @@ ghost use Rattle.px_chain.specs.Sound.{Layout};
 ghost use Rattle.px_chain.specs.Table.{laid};
 ghost use Rattle.px_tables.specs.Held.{HasLayout, table_of};
 ghost use Rattle.px_tables.specs.Keys.{IsEntered};
-ghost use Rattle.px_tables.specs.Linking.{FitsSlot, IsFull, IsLink, IsPrepared, bytes_of_key, version_of};
+ghost use Rattle.px_tables.specs.Linking.{FitsSlot, GoesTo, IsFull, IsLink, IsPlaceFor, IsPrepared, bytes_of_key, version_of};
 
 use super::Table;
-use crate::linking::Linking;
+use crate::linking::{Linking, Place, key_of};
 use crate::places::put_at;
-use px_cells::{CellList, Header, Pointer, Slot, SlotState};
+use px_cells::{CellList, Pointer};
 use px_chain::link;
 use px_free::{take_row, take_slot};
-use px_model::{Bytes, Write};
-use std::alloc::{AllocError, Global};
-
-/// Where a version goes: the slot's number, its row pointer, the slot behind it, and the header once what it needs is taken.
-#[derive(Clone, Copy)]
-struct Place {
-    header: Header,
-    number: u32,
-    row: u32,
-    next: u32,
-}
+use px_model::Write;
+use std::alloc::AllocError;
 
 impl Table {
     /// Prepares the version that the transaction with the stored number `xn` writes: takes the memory for it, and changes no
@@ -39,25 +29,34 @@ impl Table {
         ensures prepared { IfOk result (λ prepared. IfSome prepared (λ linking. IsPrepared self.new linking)) }
         ensures version { IfOk result (λ prepared. IfSome prepared (λ linking. linking.slot ≡ version_of xn linking.slot.next linking.slot.row write.now)) }
     {
-        let key = key_of(write);
+        let alloc = self.allocator();
+        let Some(place) = self.place_for(key_of(write))? else {
+            return Ok(None);
+        };
+        let slot = place.version(alloc, xn, write)?;
+        Ok(Some(place.link(slot)))
+    }
+
+    /// Takes the memory for one more version of a key's row, and says where it goes. It changes no cell. None exactly where the
+    /// table is full. It fails only for want of memory.
+    pub fn place_for(&mut self, key: &[u8]) -> Result<Option<Place>, AllocError>
+        ensures cells { self.new.cells ≡ self.old.cells }
+        ensures full { IfOk result (λ found. IsNone found ↔ IsFull (table_of self.old.cells) key.now) }
+        ensures place { IfOk result (λ found. IfSome found (IsPlaceFor self.new key.now)) }
+        ensures short { IsTrue (is_short self.old.cells.short) }
+    {
         let Some(place) = self.place_of(key) else {
             return Ok(None);
         };
         self.reserve(key)?;
-        let slot = version(self.allocator(), xn, place, write)?;
-        Ok(Some(Linking {
-            header: place.header,
-            number: place.number,
-            slot,
-        }))
+        Ok(Some(place))
     }
 
     /// The place of the next version of a key's row. None exactly where the table is full.
     fn place_of(&self, key: &[u8]) -> Option<Place>
         ensures full { IsNone result ↔ IsFull (table_of self.now.cells) key.now }
         ensures number { IfSome result (λ place. place.number ≡ next_place (slots_of self.now.cells.header)) }
-        ensures link { IfSome result (λ place. (slot : Slot) → slot.row ≡ place.row → slot.next ≡ place.next → slot.key ≡ key.now
-            → IsLink (table_of self.now.cells) place.header slot) }
+        ensures link { IfSome result (λ place. (slot : Slot) → GoesTo place key.now slot → IsLink (table_of self.now.cells) place.header slot) }
         ensures in_slots { IfSome result (λ place. place.number ≤ length self.now.cells.slots) }
         ensures in_rows { IfSome result (λ place. place.row ≤ length self.now.cells.pointers) }
         ensures short { IsTrue (is_short self.now.cells.short) }
@@ -135,43 +134,5 @@ impl Table {
         put_at(&mut self.pointers, row, pointer);
         put_at(&mut self.slots, number, slot);
         self.header = header;
-    }
-}
-
-fn key_of(write: &Write) -> &[u8]
-    ensures { result.now ≡ bytes_of_key write.now }
-{
-    match write {
-        Write::Put(row) => row.key.as_slice(),
-        Write::Delete { table: _, key } => key.as_slice(),
-    }
-}
-
-/// The version that the transaction writes, at its place.
-fn version(alloc: Global, xn: u64, place: Place, write: &Write) -> Result<Slot, AllocError>
-    requires { FitsSlot LONGEST_SHORT write.now }
-    ensures { IfOk result (λ slot. slot ≡ version_of xn place.next place.row write.now) }
-{
-    let blank = Slot {
-        state: SlotState::Deletion,
-        xn,
-        next: place.next,
-        row: place.row,
-        tag: 0,
-        total: 0,
-        log: 0,
-        place: 0,
-        key: Bytes::from_slice(alloc, key_of(write))?,
-        short: Bytes::new(alloc),
-    };
-    match write {
-        Write::Put(row) => Ok(Slot {
-            state: SlotState::Row,
-            tag: row.tag,
-            total: row.body.as_slice().len() as u32,
-            short: row.body.copy()?,
-            ..blank
-        }),
-        Write::Delete { table: _, key: _ } => Ok(blank),
     }
 }

@@ -55,6 +55,18 @@ impl Table {
         self.pointers[row as usize]
     }
 
+    /// The slots of a row's versions, the newest first. It fails only for want of memory.
+    pub fn slots_of(&self, row: u32) -> Result<Vec<u32>, AllocError>
+        requires { IsUsedRow (table_of self.now.cells) row }
+        ensures { IfOk result (λ slots. (layout : Layout) → HasLayout self.now.cells layout → slots.items ≡ layout.chain row) }
+    {
+        let mut slots = Vec::new(self.allocator());
+        for (number, _) in self.versions(row) {
+            slots.push(number)?;
+        }
+        Ok(slots)
+    }
+
     /// The versions of a row, the newest first.
     pub fn versions(&self, row: u32) -> Versions<'_>
         requires { IsUsedRow (table_of self.now.cells) row }

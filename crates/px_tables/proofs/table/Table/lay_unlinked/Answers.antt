@@ -44,18 +44,18 @@ invariant_of-self c =
     (λ k away. c.forget_if.ensures.others k (λ same. away (same ∙ key))))
 
 pub returns-clause-table : goal.returns-clause-table
-returns-clause-table c = λ layout sound.
+returns-clause-table c = λ layout from sound stands.
     let inside = c.self.inside in
     let u = c.args.unlinking in
     let is = subst (λ (h : Held). IsUnlink h.cells u) (sym c.self.view_is) c.requires in
     let with_lists : List Slot → List Pointer → Cells = λ s p. record { number = inside.number; short = inside.short; header = u.unlinked.header; slots = s; pointers = p } in
     ap (λ (s : List Slot). table_of (with_lists s c.put_pointer.new.pointers.items)) c.put_slots.ensures
     ∙ ap (λ (p : List Pointer). table_of (with_lists (with_slots inside.slots.items u.unlinked.slots.items) p)) c.put_pointer.ensures
-    ∙ unlaid_is u c.self.invariant is layout (subst (λ (h : Held). HasLayout h.cells layout) (sym c.self.view_is) sound)
-    ∙ ap (λ (h : Held). laid (table_of h.cells) (unlink_cells h.cells.header (parts_in h.cells layout u.row u.from u.count))) c.self.view_is
+    ∙ unlaid_is u c.self.invariant is layout from (subst (λ (h : Held). HasLayout h.cells layout) (sym c.self.view_is) sound) stands
+    ∙ ap (λ (h : Held). laid (table_of h.cells) (unlink_cells h.cells.header (parts_in h.cells layout u.row from u.count))) c.self.view_is
 
 pub returns-clause-layout : goal.returns-clause-layout
-returns-clause-layout c = λ layout sound.
+returns-clause-layout c = λ layout from sound stands.
     rw (c.put_slots.ensures, c.put_pointer.ensures)
     (unlaid_layout c.args.unlinking c.self.invariant (subst (λ (h : Held). IsUnlink h.cells c.args.unlinking) (sym c.self.view_is) c.requires)
-    layout (subst (λ (h : Held). HasLayout h.cells layout) (sym c.self.view_is) sound))
+    layout from (subst (λ (h : Held). HasLayout h.cells layout) (sym c.self.view_is) sound) stands)

@@ -34,9 +34,9 @@ returns-in-Some-clause-link c =
     let len = kept.pointers in
     let behind = ap (λ (s : Slot). s.next) (read inside.slots.items inside.header.free_slot c.index.result.now unused_slot (slot_front_in kept) c.index.ensures) in
     let head = ap (λ (p : Pointer). p.head) (read inside.pointers.items row c.index-in-Some.result.now free_pointer (omega (arith, place.1, len)) c.index-in-Some.ensures) in
-    λ slot its_row its_next its_key. subst (λ (h : Held). IsLink (table_of h.cells) header slot) c.self.view_is
+    λ slot goes. subst (λ (h : Held). IsLink (table_of h.cells) header slot) c.self.view_is
     (varies_row (table_of cells) header key row (c.in_ok-number.ensures.slots ∙ ap (after_taking (slots_of inside.header)) behind) c.in_ok-number.ensures.rows is
-    slot its_row (its_next ∙ head) its_key)
+    slot goes.its_row (goes.its_next ∙ head) goes.its_key)
 
 pub returns-in-Some-clause-in_slots : goal.returns-in-Some-clause-in_slots
 returns-in-Some-clause-in_slots c =
@@ -55,10 +55,10 @@ returns-clause-link c =
     let same = ap (λ (p : Places). p.front) c.in_ok-number.ensures.rows in
     let behind = ap (λ (s : Slot). s.next) (read inside.slots.items inside.header.free_slot c.index.result.now unused_slot (slot_front_in kept) c.index.ensures) in
     let head = ap (λ (p : Pointer). p.head) (read inside.pointers.items middle.free_row c.index-2.result.now free_pointer (omega (arith, row_front_in kept, same)) c.index-2.ensures) in
-    λ slot its_row its_next its_key. subst (λ (h : Held). IsLink (table_of h.cells) header slot) c.self.view_is
+    λ slot goes. subst (λ (h : Held). IsLink (table_of h.cells) header slot) c.self.view_is
     (begins_row (table_of cells) middle header key row (c.in_ok-number.ensures.slots ∙ ap (after_taking (slots_of inside.header)) behind) c.in_ok-number.ensures.rows
     c.in_ok-row.ensures.slots (c.in_ok-row.ensures.rows ∙ ap (after_taking (rows_of middle)) head) c.in_ok-row.ensures.row none
-    slot its_row its_next its_key)
+    slot goes.its_row goes.its_next goes.its_key)
 
 pub returns-clause-in_slots : goal.returns-clause-in_slots
 returns-clause-in_slots c =
