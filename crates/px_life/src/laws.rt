@@ -11,6 +11,7 @@ ghost use Rattle.px_laid.specs.Places.{Places};
 ghost use Rattle.px_model.specs.declared.row.Row.{Row};
 ghost use Rattle.px_opened.specs.Kept.{HoldsStore};
 ghost use Rattle.px_opened.specs.Opened.{Opens, changes_over};
+ghost use Rattle.px_restart.specs.declared.restart.Restart.{Restart};
 ghost use Rattle.px_shown.specs.Parts.{Parts};
 ghost use Rattle.px_shown.specs.Shown.{Done, Shows};
 ghost use Rattle.px_shown.specs.Tables.{Layouts, Tables};
@@ -18,6 +19,7 @@ ghost use Rattle.px_told.specs.Writes.{rows_over};
 ghost use Rattle.px_life.specs.Example.{new_life};
 ghost use Rattle.px_life.specs.Extends.{Extends};
 ghost use Rattle.px_life.specs.Found.{AreBelow, life_found};
+ghost use Rattle.px_life.specs.Front.{AreStored, IsFrom, KnowsDone, commits_at, done_by};
 ghost use Rattle.px_life.specs.Life.{IsLife, Life, MayStand, committed_by, end_of, grown, places_at, store_at};
 
 use px_history::a_history_shows_what_it_tells;
@@ -73,3 +75,11 @@ pub fn a_life_begins()
     only_numbers_in_chains_are_asked();
     more_places_open_to_the_same();
 }
+
+/// Where a restart takes as done just who is done, it does so a step later too, if no version is put by a number below its low mark.
+/// Unlinks and moves put none.
+pub fn done_goes_on()
+    ensures { (parts : Parts) (short tables next : ℕ) (rows : List Row) (life : Life) (restart : Restart) (step : Step) (change : Change)
+        → IsLife parts short tables next rows (grown life step change) → life.first ≤ restart.first → restart.first ≤ end_of life
+        → IsFrom restart.low step → KnowsDone restart life (end_of life) → KnowsDone restart (grown life step change) (end_of life + 1) }
+{}

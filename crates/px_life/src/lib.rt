@@ -13,6 +13,6 @@
 mod laws;
 
 pub use laws::{
-    a_front_shows, a_life_begins, a_life_grows, a_new_store_is_a_life, fronts_hold,
+    a_front_shows, a_life_begins, a_life_grows, a_new_store_is_a_life, done_goes_on, fronts_hold,
     more_places_open_to_the_same,
 };
