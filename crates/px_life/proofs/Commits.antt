@@ -1,5 +1,5 @@
 -- Whose Commits are among changes, and the number of the last one.
-use Rattle.std.proofs.Common.{◌≡◌, ℕ, zero, suc, ◌+◌, ◌<◌, ◌≤◌, ◌==◌, ◌||◌, Bool, cond, true, false, List, [], ◌∷◌, ◌++◌, drop, take, refl, sym, ap, subst, ◌∙◌, arith, append_assoc, inl, inr}
+use Rattle.std.proofs.Common.{◌≡◌, ℕ, zero, suc, ◌+◌, ◌<◌, ◌≤◌, ◌==◌, ◌||◌, Bool, cond, max, true, false, List, [], ◌∷◌, ◌++◌, drop, take, refl, sym, ap, subst, ◌∙◌, arith, append_assoc, inl, inr}
 use Rattle.std.specs.Prelude.{All}
 use Rattle.std.specs.List.{list_any}
 use Rattle.std.proofs.lemmas.Bool.{ne_eqb}
@@ -8,9 +8,12 @@ use Rattle.std.proofs.lemmas.List.Folds.{list_any-append, list_any_none}
 use Rattle.px_change.specs.declared.change.Change.{Change}
 use Rattle.px_history.specs.Steps.{Step, after_step, after_steps}
 use Rattle.px_history.specs.Store.{Store}
-use Rattle.px_history.specs.Written.{AreChangesOf, IsMarkOf}
-use Rattle.px_life.specs.Life.{committed_by, committer}
-use Rattle.px_life.specs.Front.{last_number}
+use Rattle.px_history.specs.Told.{IsNumberedOn, last_after}
+use Rattle.px_history.specs.Written.{AreChangesOf, IsChangeOf, IsMarkOf, commit_of}
+use Rattle.px_restart.specs.declared.restart.Restart.{Restart}
+use Rattle.px_life.specs.Life.{Life, between, committed_by, committer, end_of, grown}
+use Rattle.px_life.specs.Front.{commits_at, commits_by, last_number}
+use Rattle.px_life.proofs.Between.{one_more_between}
 use Rattle.px_life.proofs.Over.{or_none}
 
 -- ---- whose they are
@@ -94,3 +97,32 @@ pub last_of_more : (last : ℕ) (changes : List Change) (change : Change)
     → last_number last (changes ++ change ∷ []) ≡ cond (change.commit == 0) (last_number last changes) change.commit
 last_of_more last [] change = refl
 last_of_more last (first ∷ changes) change = last_of_more (cond (first.commit == 0) last first.commit) changes change
+
+next_is_most : (count last : ℕ) → max count (max count last + 1) ≡ max count last + 1
+next_is_most count last = omega arith
+
+commit_is : (n last : ℕ) → 1 ≤ n → cond (n == 0) last n ≡ n
+commit_is n last some = ap (λ (b : Bool). cond b last n) (ne_eqb n 0 (λ none. omega (arith, some, none)))
+
+-- a commit's number is the next one, and nothing else has any
+pub commits_after : (restart : Restart) (changes : List Change) (change : Change) (step : Step) → change.commit ≡ commit_of step
+    → IsNumberedOn (commits_by restart changes) [] step → commits_by restart (changes ++ change ∷ []) ≡ last_after (commits_by restart changes) step
+commits_after restart changes change step is numbered =
+    ap (max restart.commits) (last_of_more 0 changes change ∙ ap (λ (n : ℕ). cond (n == 0) (last_number 0 changes) n) is) ∙ by_step step numbered
+  where
+    by_step : (step : Step) → IsNumberedOn (commits_by restart changes) [] step
+        → max restart.commits (cond (commit_of step == 0) (last_number 0 changes) (commit_of step)) ≡ last_after (commits_by restart changes) step
+    by_step (Step.put t header slot) numbered = refl
+    by_step (Step.commit xn number) numbered =
+        let some : 1 ≤ number = omega (arith, numbered) in
+        ap (max restart.commits) (commit_is number (last_number 0 changes) some ∙ numbered) ∙ next_is_most restart.commits (last_number 0 changes) ∙ sym numbered
+    by_step (Step.rollback xn) numbered = refl
+    by_step (Step.unlink t row from count) numbered = refl
+    by_step (Step.move t number log place) numbered = refl
+
+pub commits_go_on : (short : ℕ) (life : Life) (restart : Restart) (store : Store) (step : Step) (change : Change) → life.first ≤ restart.first → restart.first ≤ end_of life
+    → IsChangeOf short store step change → IsNumberedOn (commits_at restart life (end_of life)) [] step
+    → commits_at restart (grown life step change) (end_of life + 1) ≡ last_after (commits_at restart life (end_of life)) step
+commits_go_on short life restart store step change from to is numbered =
+    ap (commits_by restart) (one_more_between life step change restart.first from to)
+    ∙ commits_after restart (between life restart.first (end_of life)) change step is.commit numbered

@@ -19,8 +19,12 @@ use Rattle.px_model.specs.declared.row.Row.{Row}
 use Rattle.px_restart.specs.declared.restart.Restart.{Restart}
 use Rattle.px_shown.specs.Parts.{Parts}
 use Rattle.px_shown.specs.Shown.{Done}
-use Rattle.px_shown.specs.Tables.{AreSound}
-use Rattle.px_life.specs.Front.{IsFrom, KnowsDone, done_at, done_by}
+use Rattle.px_shown.specs.Tables.{AreSound, Layouts, Tables, slots_of_row}
+use Rattle.px_laid.specs.Places.{Places}
+use Rattle.px_opened.specs.Opened.{Opens, changes_over}
+use Rattle.px_life.specs.Found.{AreBelow, life_found, store_found}
+use Rattle.px_life.specs.Front.{AreStored, HasStoredNumber, IsFrom, KnowsDone, done_at, done_by}
+use Rattle.px_life.proofs.Found.{counted_slots, done_cut}
 use Rattle.px_life.specs.Life.{IsLife, Life, MayStand, between, committed_by, committer, end_of, grown, store_at}
 use Rattle.px_life.proofs.Between.{all_between, one_more_between}
 use Rattle.px_life.proofs.Commits.{among_both, committed_both, done_after, ended_by, is_among, mark_ends, none_behind, none_from, undone_before}
@@ -182,3 +186,33 @@ module _ (parts : Parts) (short tables next : ℕ) (rows : List Row) (life : Lif
             (step_leaves_writers IsStoredNumber parts short before step sound may
             (writer_is IsStoredNumber step short (after_steps life.base life.steps) change are.1 stored) knows.numbers);
       }
+
+-- ---- what an opening found
+
+take_none : {X : Type 0} (n : ℕ) → take {A = X} n [] ≡ []
+take_none zero = refl
+take_none (suc n) = refl
+
+pub opening_knows : (short tables next redo : ℕ) (restart : Restart) (changes : List Change) (files : Places) (found : Tables) (layouts : Layouts)
+    → Opens short tables (changes_over files (drop (redo - restart.first) changes)) found layouts → AreBelow next found layouts → AreStored found layouts
+    → KnowsDone restart (life_found next restart.first redo changes files found layouts (done_by restart changes)) (restart.first + length changes)
+opening_knows short tables next redo restart changes files found layouts opens below are_stored =
+    let done = done_by restart changes in
+    let base = store_found next found layouts done in
+    let life = life_found next restart.first redo changes files found layouts done in
+    let places = changes_over files (drop (redo - restart.first) changes) in
+    let at_start : store_at life (restart.first + length changes) ≡ base = ap (after_steps base) (take_none (restart.first + length changes - (restart.first + length changes))) in
+    let none : restart.first - restart.first ≡ 0 = omega arith in
+    let scanned : between life restart.first (restart.first + length changes) ≡ changes =
+    ap (λ (n : ℕ). take (restart.first + length changes - restart.first) (drop n changes)) none
+    ∙ take_all (restart.first + length changes - restart.first) changes (omega arith) in
+    let Alike : Done → Store → ℕ → Type 0 = λ d s xn. s.done xn ≡ d xn in
+    record {
+      done = subst (λ (s : Store). AreWriters (Alike (done_at restart life (restart.first + length changes)) s) s) (sym at_start)
+          (subst (λ (l : List Change). AreWriters (Alike (done_by restart l) base) base) (sym scanned)
+          (counted_slots (λ (slot : Slot). base.done slot.xn ≡ done slot.xn) short tables places found layouts opens
+          (λ t row used. All-weaker (λ (slot : Slot). slot.xn < next) (λ (slot : Slot). base.done slot.xn ≡ done slot.xn)
+          (λ slot less. sym (done_cut next done slot.xn less)) (slots_of_row (found t) (layouts t) row) (below t row used))));
+      numbers = subst (λ (s : Store). AreStored s.tables s.layouts) (sym at_start)
+          (counted_slots HasStoredNumber short tables places found layouts opens are_stored);
+    }

@@ -5,7 +5,7 @@ ghost use Rattle.px_history.specs.Fitting.{IsWritten};
 ghost use Rattle.px_history.specs.Written.{IsChangeOf};
 ghost use Rattle.px_history.specs.Steps.{IsStep, Step};
 ghost use Rattle.px_history.specs.Store.{Store};
-ghost use Rattle.px_history.specs.Told.{told_by};
+ghost use Rattle.px_history.specs.Told.{IsNumberedOn, last_after, told_by};
 ghost use Rattle.px_history.specs.Writers.{IsAlone};
 ghost use Rattle.px_laid.specs.Places.{Places};
 ghost use Rattle.px_model.specs.declared.row.Row.{Row};
@@ -82,4 +82,20 @@ pub fn done_goes_on()
     ensures { (parts : Parts) (short tables next : ℕ) (rows : List Row) (life : Life) (restart : Restart) (step : Step) (change : Change)
         → IsLife parts short tables next rows (grown life step change) → life.first ≤ restart.first → restart.first ≤ end_of life
         → IsFrom restart.low step → KnowsDone restart life (end_of life) → KnowsDone restart (grown life step change) (end_of life + 1) }
+{}
+
+/// The number of commits that a restart has goes on with a commit's number, where this is the next one; nothing else has any.
+pub fn commits_go_on()
+    ensures { (short : ℕ) (life : Life) (restart : Restart) (step : Step) (change : Change) → life.first ≤ restart.first → restart.first ≤ end_of life
+        → IsChangeOf short (store_at life (end_of life)) step change → IsNumberedOn (commits_at restart life (end_of life)) [] step
+        → commits_at restart (grown life step change) (end_of life + 1) ≡ last_after (commits_at restart life (end_of life)) step }
+{}
+
+/// An opening takes as done who is below its restart's low mark, and whose Commit it read. In the life that it found the restart
+/// knows who is done at its start, where the chains have stored numbers below the next one.
+pub fn an_opening_knows_who_is_done()
+    ensures { (short tables next redo : ℕ) (restart : Restart) (changes : List Change) (files : Places) (found : Tables) (layouts : Layouts)
+        → Opens short tables (changes_over files (drop (redo - restart.first) changes)) found layouts → AreBelow next found layouts → AreStored found layouts
+        → let life = life_found next restart.first redo changes files found layouts (done_by restart changes) in
+        KnowsDone restart life life.start }
 {}
