@@ -1,19 +1,18 @@
 -- A step leaves done who is done, as a restart has it; and so it is where an opening found the store.
-use Rattle.std.proofs.Common.{◌≡◌, ℕ, zero, suc, ◌+◌, ◌-◌, ◌<◌, ◌≤◌, ◌==◌, ◌||◌, ◌&&◌, Bool, cond, true, false, max, nat_lt, List, [], ◌∷◌, ◌++◌, drop, length, take, refl, sym, ap, subst, ◌∙◌, arith, length-append}
+use Rattle.std.proofs.Common.{◌≡◌, ℕ, zero, suc, ◌+◌, ◌-◌, ◌<◌, ◌≤◌, ◌||◌, Bool, true, false, nat_lt, List, [], ◌∷◌, ◌++◌, drop, length, take, refl, sym, ap, subst, ◌∙◌, arith, length-append}
 use Rattle.std.specs.Prelude.{All}
-use Rattle.std.proofs.lemmas.Bool.{and_left, and_parts, le-ltb, leb-true, lt-ltb, ltb-true}
+use Rattle.std.proofs.lemmas.Bool.{and_parts, le-ltb, leb-true, ltb-true}
 use Rattle.std.proofs.lemmas.Grind.{fold-append}
-use Rattle.std.proofs.lemmas.List.{append-nil, drop-append-le, drop_all, length-drop, take-append-drop, take-append-le, take_all}
+use Rattle.std.proofs.lemmas.List.{append-nil, drop-append-le, drop_all, take-append-drop, take-append-le, take_all}
 use Rattle.std.proofs.lemmas.List.Elements.{All-weaker}
 use Rattle.px_cells.specs.declared.slot.Slot.{Slot}
 use Rattle.px_change.specs.declared.change.Change.{Change}
 use Rattle.px_change.specs.Grammar.{is_change, is_stored, may_hold}
-use Rattle.px_history.specs.Base.{IsBase}
 use Rattle.px_history.specs.Fitting.{IsStoredNumber}
-use Rattle.px_history.specs.Steps.{AreSteps, History, IsStep, Step, after_step, after_steps}
+use Rattle.px_history.specs.Steps.{AreSteps, IsStep, Step, after_step, after_steps}
 use Rattle.px_history.specs.Store.{IsOpen, Store, versions_of}
 use Rattle.px_history.specs.Told.{Agrees, told_by}
-use Rattle.px_history.specs.Written.{AreChangesOf, IsChangeOf, change_of}
+use Rattle.px_history.specs.Written.{AreChangesOf, IsChangeOf}
 use Rattle.px_history.proofs.Agreeing.{history_agrees}
 use Rattle.px_model.specs.declared.row.Row.{Row}
 use Rattle.px_restart.specs.declared.restart.Restart.{Restart}

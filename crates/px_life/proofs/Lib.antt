@@ -5,4 +5,5 @@ pub mod Found
 pub mod Fronts
 pub mod Made
 pub mod Over
+pub mod Runs
 pub mod Writers

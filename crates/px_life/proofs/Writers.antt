@@ -1,12 +1,12 @@
 -- Who wrote the versions of a store: after a step those who had, and who puts a version.
-use Rattle.std.proofs.Common.{◌≡◌, ◌≢◌, ℕ, ◌==◌, List, [], ◌∷◌, map, refl, sym, ap, subst, ◌∙◌, inl, inr, ⊎_elim}
+use Rattle.std.proofs.Common.{◌≡◌, ◌≢◌, ℕ, List, [], ◌∷◌, map, refl, sym, ap, subst, ◌∙◌, ⊎_elim}
 use Rattle.std.specs.Prelude.{All, drop, take}
 use Rattle.std.proofs.lemmas.Bool.{cases_eq, eq-eqb, ne_eqb}
 use Rattle.std.proofs.lemmas.List.Elements.{All-append, All-cons, All-drop, All-head, All-map, All-nil, All-tail, All-take}
 use Rattle.px_cells.specs.declared.slot.Slot.{Slot}
 use Rattle.px_chain.specs.Sound.{IsUsedRow}
 use Rattle.px_chain.specs.Table.{Table, laid}
-use Rattle.px_history.specs.Steps.{IsStep, MayPut, MayUnlink, Step, after_step, layout_linked}
+use Rattle.px_history.specs.Steps.{IsStep, Step, after_step, layout_linked}
 use Rattle.px_history.specs.Store.{Store, versions_of}
 use Rattle.px_history.proofs.Agreeing.{link_of}
 use Rattle.px_shown.specs.Changes.{left_of, layouts_unlinked, with_link, with_unlink}

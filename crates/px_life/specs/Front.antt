@@ -1,6 +1,5 @@
 -- Who is done in a front of the frames, and how many commits it has, as a restart that is scanned up to there has both.
 use Rattle.std.specs.Prelude.{◌≡◌, ℕ, ◌≤◌, ◌==◌, max, List, [], ◌∷◌, All, if◌then◌else◌}
-use Rattle.px_cells.specs.declared.header.Header.{Header}
 use Rattle.px_cells.specs.declared.slot.Slot.{Slot}
 use Rattle.px_change.specs.declared.change.Change.{Change}
 use Rattle.px_chain.specs.Sound.{IsUsedRow}

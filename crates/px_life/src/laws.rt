@@ -1,4 +1,4 @@
-ghost use Rattle.std.specs.Prelude.{◌≡◌, ◌<◌, ◌≤◌, ◌+◌, ◌-◌, [], ℕ, All, List, drop, length, take, true};
+ghost use Rattle.std.specs.Prelude.{◌≡◌, ◌<◌, ◌≤◌, ◌+◌, ◌-◌, [], ℕ, All, List, drop, false, length, take, true};
 ghost use Rattle.px_change.specs.Grammar.{may_hold};
 ghost use Rattle.px_change.specs.declared.change.Change.{Change};
 ghost use Rattle.px_history.specs.Fitting.{IsWritten};
@@ -16,10 +16,10 @@ ghost use Rattle.px_shown.specs.Parts.{Parts};
 ghost use Rattle.px_shown.specs.Shown.{Done, Shows};
 ghost use Rattle.px_shown.specs.Tables.{Layouts, Tables};
 ghost use Rattle.px_told.specs.Writes.{rows_over};
-ghost use Rattle.px_life.specs.Example.{new_life};
+ghost use Rattle.px_life.specs.Example.{first_run, new_life, new_restart, opened_again, row_of_3, second_run};
 ghost use Rattle.px_life.specs.Extends.{Extends};
 ghost use Rattle.px_life.specs.Found.{AreBelow, life_found};
-ghost use Rattle.px_life.specs.Front.{AreStored, IsFrom, KnowsDone, commits_at, done_by};
+ghost use Rattle.px_life.specs.Front.{AreStored, IsFrom, KnowsDone, commits_at, done_at, done_by};
 ghost use Rattle.px_life.specs.Life.{IsLife, Life, MayStand, committed_by, end_of, grown, places_at, store_at};
 
 use px_history::a_history_shows_what_it_tells;
@@ -99,3 +99,23 @@ pub fn an_opening_knows_who_is_done()
         → let life = life_found next restart.first redo changes files found layouts (done_by restart changes) in
         KnowsDone restart life life.start }
 {}
+
+/// In a new store 3 writes a row and commits, and the store is opened again; there 5 writes the row once more, and stops before it
+/// commits. Both are lives, whatever lies in the data logs. Each of the two fronts of the second one shows what 3 wrote, after one
+/// commit: there the restart of the new store takes 3 as done and 5 not, as it is.
+pub fn a_life_in_two_runs()
+    ensures first { (parts : Parts) → IsLife parts 16 2 1 [] first_run }
+    ensures opened { (parts : Parts) → IsLife parts 16 2 4 row_of_3 opened_again }
+    ensures second { (parts : Parts) → IsLife parts 16 2 4 row_of_3 second_run }
+    ensures at_start { (parts : Parts) → let store = store_at second_run 2 in Shows parts store.tables store.layouts store.done row_of_3 }
+    ensures at_end { (parts : Parts) → let store = store_at second_run 3 in Shows parts store.tables store.layouts store.done row_of_3 }
+    ensures known { KnowsDone new_restart second_run 2 × KnowsDone new_restart second_run 3 }
+    ensures done { (done_at new_restart second_run 3 3 ≡ true) × (done_at new_restart second_run 3 5 ≡ false) }
+    ensures commits { (commits_at new_restart second_run 2 ≡ 1) × (commits_at new_restart second_run 3 ≡ 1) }
+{
+    a_step_keeps_what_is_held();
+    a_history_shows_what_it_tells();
+    what_opens_is_one();
+    only_numbers_in_chains_are_asked();
+    more_places_open_to_the_same();
+}
