@@ -127,6 +127,19 @@ counted_extend found places = record {
   headers = λ table. refl;
 }
 
+-- a number below the next one is done as it was found
+pub done_cut : (next : ℕ) (done : Done) (xn : ℕ) → xn < next → done xn ≡ (nat_lt xn next && done xn)
+done_cut next done xn low = ap (λ (b : Bool). b && done xn) (sym (lt-ltb xn next low))
+
+-- what is so of the slots in the chains is so of what is counted
+pub counted_slots : (P : Slot → Type 0) (short tables : ℕ) (places : Places) (found : Tables) (layouts : Layouts) → Opens short tables places found layouts
+    → ((t row : ℕ) → IsUsedRow (found t) row → All P (slots_of_row (found t) (layouts t) row))
+    → (t row : ℕ) → IsUsedRow (counted_table (found t)) row → All P (slots_of_row (counted_table (found t)) (layouts t) row)
+counted_slots P short tables places found layouts opens each t row used =
+    let row_is = same_row short (found t) (counted_table (found t)) (layouts t) (layouts t) row (all_sound short tables places found layouts opens t) (same_counted (found t))
+    (record { chains = λ r. refl; free_slots = refl; free_rows = refl }) used in
+    subst (All P) row_is.slots (each t row row_is.used)
+
 -- ---- a base
 
 -- what is said of the laws below: cells show what those that places open to show, and who is done is asked of numbers in chains alone
@@ -152,22 +165,16 @@ module _ (show : OpensShow) (ask : NumbersAreAsked) (open_held : HeldOpens) (par
   again = open_held short tables (store_found next found layouts done) (counted_places found places) places (found_held short tables next places found layouts done opens) (counted_extend found places)
 
   counted_below : AreBelow next (counted_tables found) layouts
-  counted_below t row used =
-      let row_is = same_row short (found t) (counted_table (found t)) (layouts t) (layouts t) row (all_sound short tables places found layouts opens t) (same_counted (found t))
-      (record { chains = λ r. refl; free_slots = refl; free_rows = refl }) used in
-      subst (λ (slots : List Slot). All (λ slot. slot.xn < next) slots) row_is.slots (below t row row_is.used)
-
-  done_cut : (xn : ℕ) → xn < next → done xn ≡ (nat_lt xn next && done xn)
-  done_cut xn low = ap (λ (b : Bool). b && done xn) (sym (lt-ltb xn next low))
+  counted_below = counted_slots (λ (slot : Slot). slot.xn < next) short tables places found layouts opens below
 
   pub found_is_base : IsBase parts short next rows (store_found next found layouts done)
   found_is_base = record {
     sound = all_sound short tables places (counted_tables found) layouts again;
     shows = ask parts (counted_tables found) layouts done (λ xn. nat_lt xn next && done xn) rows
-        (λ t row used k d within. done_cut _ (counted_below t row used k d within))
+        (λ t row used k d within. done_cut next done _ (counted_below t row used k d within))
         (show parts short tables places found (counted_tables found) layouts layouts done rows opens again shows);
     numbers = counted_below;
-    ended = λ xn low. ap (λ (b : Bool). b && not (done xn)) (lt-ltb xn next low) ∙ ap not (done_cut xn low);
+    ended = λ xn low. ap (λ (b : Bool). b && not (done xn)) (lt-ltb xn next low) ∙ ap not (done_cut next done xn low);
     later = λ xn high. record {
       undone = ap (λ (b : Bool). b && done xn) (le-ltb xn next high);
       not_over = ap (λ (b : Bool). b && not (done xn)) (le-ltb xn next high);

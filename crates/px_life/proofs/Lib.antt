@@ -1,5 +1,9 @@
 pub mod Between
+pub mod Commits
+pub mod Done
 pub mod Found
 pub mod Fronts
 pub mod Made
 pub mod Over
+pub mod Runs
+pub mod Writers

@@ -1,5 +1,6 @@
 pub mod Example
 pub mod Extends
 pub mod Found
+pub mod Front
 pub mod Laid
 pub mod Life
