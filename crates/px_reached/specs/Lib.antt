@@ -1,0 +1,4 @@
+pub mod Example
+pub mod Reachable
+pub mod Scanned
+pub mod Stands
