@@ -1,2 +1,3 @@
 pub mod Filed
 pub mod Lying
+pub mod Marks

@@ -4,9 +4,11 @@
 //! that a frame from the restart's `redo` on has. So whatever a crash leaves of the files, with these frames laid over it, has the cells
 //! of each front that the log may be left with.
 //!
-//! - `laws`: that, and what it takes. `specs/Filed` has the definitions.
+//! Each table file rests up to a frame of its own: what the store has in it before that frame is on the disk, unless a later frame has it.
+//!
+//! - `laws`: both, and what they take. `specs/Filed` has the definitions.
 #![tactic(auto)]
 
 mod laws;
 
-pub use laws::files_lie_under_their_frames;
+pub use laws::{each_file_rests, files_lie_under_their_frames};
