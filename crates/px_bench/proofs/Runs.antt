@@ -1,11 +1,11 @@
 -- Versions of a row unlinked one by one, the oldest first.
-use Rattle.std.proofs.Common.{◌≡◌, ℕ, suc, ◌+◌, ◌-◌, ◌<◌, ◌≤◌, List, [], ◌++◌, take, drop, get_or, length, refl, sym, ap, subst, ◌∙◌, arith}
+use Rattle.std.proofs.Common.{◌≡◌, ℕ, suc, ◌+◌, ◌-◌, ◌<◌, ◌≤◌, List, ◌++◌, take, drop, get_or, length, refl, sym, ap, subst, ◌∙◌, arith}
 use Rattle.std.proofs.Math.ListN.{drop_of_length-le}
 use Rattle.std.proofs.Math.Seq.{take-take}
 use Rattle.std.proofs.lemmas.Bool.{eq-eqb}
 use Rattle.std.proofs.lemmas.List.{append-nil, drop-drop, get_or-take, length-take-le}
 use Rattle.px_chain.specs.Links.{unlinked}
-use Rattle.px_chain.specs.Places.{IsRun, StandsAt, slot_before, slot_in}
+use Rattle.px_chain.specs.Places.{IsRun, StandsAt, slot_before}
 use Rattle.px_chain.specs.Sound.{IsUsedRow, Layout}
 use Rattle.px_chain.proofs.SoundLaws.{chain_alike, chained}
 use Rattle.px_chain.proofs.Standing.{stands_in}
@@ -64,8 +64,7 @@ left_then old new unlinking row slots place some within one which laid =
     let here : StandsAt (one.0.chain row) (place - 1) (get_or slots (place - 1) 0) = (omega (arith, ends), run.start) in
     let stands : StandsAt (one.0.chain unlinking.row) (place - 1) unlinking.first =
     subst (λ (r : ℕ). StandsAt (one.0.chain r) (place - 1) unlinking.first) (sym which.0)
-    (subst (λ (n : ℕ). StandsAt (one.0.chain row) (place - 1) n) (sym which.1) here) in
-    (
+    (subst (λ (n : ℕ). StandsAt (one.0.chain row) (place - 1) n) (sym which.1) here) in (
       unlinked one.0 row (place - 1) 1,
       subst (λ (n : ℕ). HasLayout new (unlinked one.0 row (place - 1) n)) which.2
           (subst (λ (r : ℕ). HasLayout new (unlinked one.0 r (place - 1) unlinking.count)) which.0 (laid one.0 (place - 1) one.1 stands)),
