@@ -37,8 +37,8 @@ pub fn unlinks(
 /// A table with so many versions of one key.
 fn linked(alloc: Global, count: u32) -> anyhow::Result<Table> {
     let mut table = Table::new(alloc, 1, SHORT)?;
-    let write = put(alloc)?;
     for number in 0..count {
+        let write = put(alloc)?;
         let Some(linking) = table.prepare(u64::from(number), &write)? else {
             anyhow::bail!("the table is full");
         };

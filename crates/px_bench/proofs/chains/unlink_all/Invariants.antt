@@ -1,4 +1,4 @@
-use Rattle.std.proofs.Common.{◌≡◌, ◌≤◌, length, take}
+use Rattle.std.proofs.Common.{◌≡◌, take}
 use Rattle.px_chain.specs.Sound.{Layout}
 use Rattle.px_tables.specs.Held.{HasLayout}
 use Rattle.px_bench.proofs.chains.unlink_all.Given as goal
