@@ -6,7 +6,7 @@ ghost use Rattle.px_tables.specs.Linking.{FitsSlot};
 use px_held::Held;
 use px_model::{Bytes, Row, Session, Write};
 use px_tables::Table;
-use px_xacts::{WriteAt, Xacts};
+use px_xacts::{Begun, WriteAt, Xacts};
 use std::alloc::{AllocError, Global};
 use std::test::Fail;
 
@@ -75,17 +75,29 @@ fn alone(alloc: Global, one: OneTable) -> Result<Vec<Table>, AllocError>
 pub(crate) fn xacts(alloc: Global) -> Result<Xacts, Fail> {
     let mut all = Xacts::new(alloc, BASE)?;
     let first = Session::of(0).ok_or("no session")?;
-    let _begun = all.begin(first, 0)?;
-    let key = Bytes::from_slice(alloc, b"a")?;
-    let (row, slot) = (1, 2);
+    write_once(alloc, &mut all, first)?;
+    commit(&mut all, first);
+    let _open = all.begin(Session::of(1).ok_or("no session")?, 0)?;
+    Ok(all)
+}
+
+/// Begins a transaction that writes the row of `a`.
+fn write_once(alloc: Global, all: &mut Xacts, session: Session) -> Result<(), AllocError> {
     let write = WriteAt {
         table: 1,
-        row,
-        slot,
-        key,
+        row: 1,
+        slot: 3,
+        key: Bytes::from_slice(alloc, b"a")?,
     };
-    all.add_write(first, write)?;
-    all.end(first, true);
-    let _begun = all.begin(Session::of(1).ok_or("no session")?, 0)?;
-    Ok(all)
+    if let Begun::Number(_) = all.begin(session, 0)? {
+        all.add_write(session, write)?;
+    }
+    Ok(())
+}
+
+/// Commits the session's transaction, if it has one.
+fn commit(all: &mut Xacts, session: Session) {
+    if all.number(session).is_some() {
+        all.end(session, true);
+    }
 }
