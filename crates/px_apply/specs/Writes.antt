@@ -5,8 +5,6 @@ use Rattle.px_site.specs.declared.error.SiteError.{SiteError}
 use Rattle.px_site.specs.Disk.{Change as DiskChange, Wrote}
 use Rattle.px_site.specs.State.{State, Changes, changed}
 use Rattle.px_cells.specs.declared.cell.Cell.{Cell}
-use Rattle.px_cells.specs.declared.cell.CellKind.{CellKind}
-use Rattle.px_cells.specs.declared.cell.CellKind.TheVariants.{Header, Slot, Pointer}
 use Rattle.px_recs.specs.Place.{place_of, table_file}
 
 abbrev pub file_of : Cell → FileName

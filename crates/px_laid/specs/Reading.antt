@@ -1,9 +1,6 @@
 -- What the bytes at a place are read as. A cell that isn't there reads as zero bytes (docs/FORMATS.md, 'Cells').
-use Rattle.std.specs.Prelude.{ℕ, false, List, [], replicate, unwrap_or}
+use Rattle.std.specs.Prelude.{ℕ, List, replicate, unwrap_or}
 use Rattle.px_cells.specs.declared.cell.CellKind.TheVariants as kind
-use Rattle.px_cells.specs.declared.pointer.Pointer.{Pointer}
-use Rattle.px_cells.specs.declared.slot.Slot.{Slot}
-use Rattle.px_cells.specs.declared.slot.SlotState.TheVariants.{Free}
 use Rattle.px_cells.specs.declared.limits.TheConstants.{HEADER_SIZE, POINTER_SIZE}
 use Rattle.px_recs.specs.Place.{size_of}
 use Rattle.px_laid.specs.Places.{Places}

@@ -4,9 +4,7 @@ use Rattle.px_cells.specs.Form.{is_slot}
 use Rattle.px_cells.specs.declared.cell.CellKind.TheVariants as kind
 use Rattle.px_cells.specs.declared.header.Header.{Header}
 use Rattle.px_recs.specs.Text.{HeaderAt, HeaderFits, PointerAt, SlotAt, SlotFits}
-use Rattle.px_chain.specs.Sound.{no_places}
 use Rattle.px_chain.specs.Table.{Content, Table}
-use Rattle.px_cells.specs.Unused.{free_pointer, unused_slot}
 use Rattle.px_laid.specs.declared.table.TableCells.{TableCells}
 use Rattle.px_laid.specs.Places.{Places}
 use Rattle.px_laid.specs.Reading.{header_bytes, pointer_bytes, slot_bytes}
@@ -18,8 +16,6 @@ pub record Says (short number : ℕ) (table : Table) (places : Places) : Type 0 
   pub header : HeaderAt (header_bytes places number) table.header
   pub slot : (n : ℕ) → SlotAt short (slot_bytes short places number n) (table.slot n)
   pub pointer : (n : ℕ) → PointerAt (pointer_bytes places number n) (table.pointer n)
-
--- a table of which no place was ever used
 
 -- the content is read again where it was written
 abbrev pub ContentFits : (short : ℕ) → Content → Type 0

@@ -1,9 +1,8 @@
 -- The table that given cells make.
-use Rattle.std.specs.Prelude.{◌-◌, List, [], false, slice_index_or}
+use Rattle.std.specs.Prelude.{◌-◌, List, slice_index_or}
 use Rattle.px_cells.specs.declared.header.Header.{Header}
 use Rattle.px_cells.specs.declared.pointer.Pointer.{Pointer}
 use Rattle.px_cells.specs.declared.slot.Slot.{Slot}
-use Rattle.px_cells.specs.declared.slot.SlotState.TheVariants.{Free}
 use Rattle.px_chain.specs.Table.{Table}
 use Rattle.px_cells.specs.Unused.{unused_slot, free_pointer}
 use Rattle.px_survey.specs.declared.cells.Cells.{Cells}
