@@ -1,11 +1,14 @@
 ghost use Rattle.std.specs.Prelude.{◌≡◌, ◌^◌, ◌<◌, [], ◌∷◌, ◌++◌, true, OnOk, OnErr};
 ghost use Rattle.px_frame.specs.Frame.{frame};
 ghost use Rattle.px_told.specs.Changes.{is_end};
+ghost use Rattle.px_told.specs.declared.change.Change.{Change};
+ghost use Rattle.px_xlog.specs.Entry.{change_of};
 ghost use Rattle.px_xlog.specs.Payload.{change_text, head, is_change};
 
-use crate::payload::{END_SIZE, KIND_COMMIT, KIND_ROLLBACK, end_bytes, put_change};
+use crate::entry::Entry;
+use crate::payload::{END_SIZE, KIND_COMMIT, KIND_ROLLBACK, append_put, end_bytes};
 use px_frame::{HEADER_SIZE, frame_header, write_frame};
-use px_told::Change;
+use px_model::Write;
 use std::alloc::{AllocError, Global};
 use std::marker::Model;
 
@@ -42,20 +45,20 @@ impl FrameBuffer {
         }
     }
 
-    /// Takes the frame of a change with this number, in place of what was there.
-    pub fn fill(&mut self, number: u64, change: &Change) -> Result<(), AllocError>
+    /// Takes the frame of an entry with this number, in place of what was there.
+    pub fn fill(&mut self, number: u64, entry: &Entry<'_>) -> Result<(), AllocError>
         requires numbered { number < 2 ^ 48 }
-        requires grammar { is_change change.now ≡ true }
-        ensures frame { OnOk result (self.new ≡ frame number (change_text change.now)) }
-        ensures room { is_end change.now ≡ true → OnErr result ⊥ }
+        requires grammar { is_change (change_of entry.now) ≡ true }
+        ensures frame { OnOk result (self.new ≡ frame number (change_text (change_of entry.now))) }
+        ensures room { is_end (change_of entry.now) ≡ true → OnErr result ⊥ }
     {
-        match change {
-            Change::Put { .. } => self.fill_put(number, change),
-            Change::Commit { xn, commit } => {
+        match entry {
+            Entry::Put { xn, write } => self.fill_put(number, *xn, write),
+            Entry::Commit { xn, commit } => {
                 self.fill_end(end_frame(number, KIND_COMMIT, *xn, *commit));
                 Ok(())
             }
-            Change::Rollback { xn } => {
+            Entry::Rollback { xn } => {
                 self.fill_end(end_frame(number, KIND_ROLLBACK, *xn, 0));
                 Ok(())
             }
@@ -69,13 +72,13 @@ impl FrameBuffer {
         self.is_end = true;
     }
 
-    fn fill_put(&mut self, number: u64, change: &Change) -> Result<(), AllocError>
+    fn fill_put(&mut self, number: u64, xn: u64, write: &Write) -> Result<(), AllocError>
         requires numbered { number < 2 ^ 48 }
-        requires grammar { is_change change.now ≡ true }
-        ensures { OnOk result (self.new ≡ frame number (change_text change.now)) }
+        requires grammar { is_change (Change.Put xn write.now) ≡ true }
+        ensures { OnOk result (self.new ≡ frame number (change_text (Change.Put xn write.now))) }
     {
         self.payload.clear();
-        put_change(&mut self.payload, change)?;
+        append_put(&mut self.payload, xn, write)?;
         self.bytes.clear();
         self.is_end = false;
         write_frame(&mut self.bytes, number, &self.payload)
