@@ -7,8 +7,8 @@ use Rattle.px_xlog.proofs.FramesOfChanges.{may_be_written}
 use Rattle.px_xlog.proofs.Appends.{may_append, short_frame, append_moments, append_logged}
 use Rattle.px_xlog.proofs.xlog.Xlog.append_entry.Goals as goal
 
-pub fill-requires-clause-grammar : goal.fill-requires-clause-grammar
-fill-requires-clause-grammar g c = may_be_written _ _ _ c.requires
+pub fill-requires : goal.fill-requires
+fill-requires g c = may_be_written _ _ _ c.requires
 
 pub write_at-requires : goal.write_at-requires
 write_at-requires g c =
