@@ -1,5 +1,4 @@
-ghost use Rattle.std.specs.Prelude.{◌≡◌, ◌-◌, ◌<◌, ◌^◌, None, Some, IfOk, is_some};
-ghost use Rattle.std.specs.Option.{option_copied};
+ghost use Rattle.std.specs.Prelude.{◌≡◌, ◌-◌, ◌<◌, ◌^◌, None, Some, IfOk, IfSome, IfNone, is_some};
 ghost use Rattle.px_model.specs.Machine.{commits, fresh, published, view};
 ghost use Rattle.px_model.specs.Rows.{row_at};
 ghost use Rattle.px_calls.specs.Steps.{open_of, conflict_of};
@@ -89,10 +88,12 @@ impl Sessions {
         self.tracked.machine().stored_writer(session)
     }
 
-    /// The write that the session's open transaction made last.
-    pub fn last_write(&self, session: Session) -> Option<&Write>
-        ensures { option_copied result ≡ last_write_of self.now session }
+    /// The stored number of the session's open transaction and the write that it made last. None where it has no writes.
+    pub fn last_put(&self, session: Session) -> Option<(u64, &Write)>
+        ensures number { IfSome result (λ put. writer_of self.now session ≡ Some put.0) }
+        ensures write { IfSome result (λ put. last_write_of self.now session ≡ Some put.1.now) }
+        ensures none { IfNone result (writer_of self.now session ≡ None) }
     {
-        self.tracked.machine().last_write(session)
+        self.tracked.machine().last_put(session)
     }
 }

@@ -1,4 +1,5 @@
 pub mod Contents
+pub mod Entry
 pub mod Errors
 pub mod Examples
 pub mod Fields

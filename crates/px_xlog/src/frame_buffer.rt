@@ -1,11 +1,15 @@
-ghost use Rattle.std.specs.Prelude.{◌≡◌, ◌^◌, ◌<◌, [], ◌∷◌, ◌++◌, true, OnOk, OnErr};
+ghost use Rattle.std.specs.Prelude.{◌≡◌, ◌≤◌, [], ◌∷◌, ◌++◌, true, drop, length, OnOk, OnErr};
 ghost use Rattle.px_frame.specs.Frame.{frame};
 ghost use Rattle.px_told.specs.Changes.{is_end};
+ghost use Rattle.px_told.specs.declared.change.Change.{Change};
+ghost use Rattle.px_xlog.specs.Entry.{change_of};
 ghost use Rattle.px_xlog.specs.Payload.{change_text, head, is_change};
 
-use crate::payload::{END_SIZE, KIND_COMMIT, KIND_ROLLBACK, end_bytes, put_change};
-use px_frame::{HEADER_SIZE, frame_header, write_frame};
-use px_told::Change;
+use crate::entry::Entry;
+use crate::payload::{END_SIZE, KIND_COMMIT, KIND_ROLLBACK, append_put, end_bytes};
+use px_bytes::LONGEST_PAYLOAD;
+use px_frame::{HEADER_SIZE, frame_header};
+use px_model::Write;
 use std::alloc::{AllocError, Global};
 use std::marker::Model;
 
@@ -16,7 +20,6 @@ const END_FRAME_SIZE: usize = HEADER_SIZE + END_SIZE;
 /// commit or a rollback is never refused for want of it.
 #[derive(Debug, Drop)]
 pub struct FrameBuffer {
-    payload: Vec<u8>,
     bytes: Vec<u8>,
     end: [u8; END_FRAME_SIZE],
     is_end: bool,
@@ -35,27 +38,25 @@ impl FrameBuffer {
         ensures { result ≡ [] }
     {
         FrameBuffer {
-            payload: Vec::new(alloc),
             bytes: Vec::new(alloc),
             end: [0; END_FRAME_SIZE],
             is_end: false,
         }
     }
 
-    /// Takes the frame of a change with this number, in place of what was there.
-    pub fn fill(&mut self, number: u64, change: &Change) -> Result<(), AllocError>
-        requires numbered { number < 2 ^ 48 }
-        requires grammar { is_change change.now ≡ true }
-        ensures frame { OnOk result (self.new ≡ frame number (change_text change.now)) }
-        ensures room { is_end change.now ≡ true → OnErr result ⊥ }
+    /// Takes the frame of an entry with this number, in place of what was there.
+    pub fn fill(&mut self, number: u64, entry: &Entry<'_>) -> Result<(), AllocError>
+        requires { is_change (change_of entry.now) ≡ true }
+        ensures frame { OnOk result (self.new ≡ frame number (change_text (change_of entry.now))) }
+        ensures room { is_end (change_of entry.now) ≡ true → OnErr result ⊥ }
     {
-        match change {
-            Change::Put { .. } => self.fill_put(number, change),
-            Change::Commit { xn, commit } => {
+        match entry {
+            Entry::Put { xn, write } => self.fill_put(number, *xn, write),
+            Entry::Commit { xn, commit } => {
                 self.fill_end(end_frame(number, KIND_COMMIT, *xn, *commit));
                 Ok(())
             }
-            Change::Rollback { xn } => {
+            Entry::Rollback { xn } => {
                 self.fill_end(end_frame(number, KIND_ROLLBACK, *xn, 0));
                 Ok(())
             }
@@ -69,16 +70,17 @@ impl FrameBuffer {
         self.is_end = true;
     }
 
-    fn fill_put(&mut self, number: u64, change: &Change) -> Result<(), AllocError>
-        requires numbered { number < 2 ^ 48 }
-        requires grammar { is_change change.now ≡ true }
-        ensures { OnOk result (self.new ≡ frame number (change_text change.now)) }
+    // The payload is written behind the room of its header, which needs its sum: so a row is copied once.
+    fn fill_put(&mut self, number: u64, xn: u64, write: &Write) -> Result<(), AllocError>
+        requires { is_change (Change.Put xn write.now) ≡ true }
+        ensures { OnOk result (self.new ≡ frame number (change_text (Change.Put xn write.now))) }
     {
-        self.payload.clear();
-        put_change(&mut self.payload, change)?;
-        self.bytes.clear();
         self.is_end = false;
-        write_frame(&mut self.bytes, number, &self.payload)
+        self.bytes.clear();
+        self.bytes.extend_from_slice(&[0; HEADER_SIZE])?;
+        append_put(&mut self.bytes, xn, write)?;
+        write_header(&mut self.bytes, number);
+        Ok(())
     }
 
     pub fn as_slice(&self) -> &[u8]
@@ -92,7 +94,17 @@ impl FrameBuffer {
     }
 }
 
-// The frame of a commit or a rollback, as `write_frame` writes it.
+// Writes the header of the payload into the room in front of it.
+fn write_header(bytes: &mut [u8], number: u64)
+    requires room { HEADER_SIZE ≤ length bytes.old }
+    requires longest { length (drop HEADER_SIZE bytes.old) ≤ LONGEST_PAYLOAD }
+    ensures { bytes.new ≡ frame number (drop HEADER_SIZE bytes.old) }
+{
+    let header = frame_header(number, &bytes[HEADER_SIZE..]);
+    bytes[..HEADER_SIZE].copy_from_slice(&header);
+}
+
+// The frame of a commit or a rollback, as px_frame's `write_frame` writes it.
 fn end_frame(number: u64, kind: u8, xn: u64, commit: u64) -> [u8; END_FRAME_SIZE]
     ensures { result ≡ frame number (head kind xn commit ++ 0 ∷ []) }
 {

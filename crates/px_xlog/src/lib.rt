@@ -4,6 +4,7 @@
 //! says so of a site, and the clauses `moments` say what a crash at any moment of a call leaves (docs/LOG.md).
 //!
 //! - `list`: a list of what frames say.
+//! - `entry`: a change whose write is lent, as it is appended.
 //! - `payload`: the bytes of a change, written and read. A later stage replaces it by cells, and nothing else here.
 //! - `place`: in which file a frame stands, and from which number on. Segments will change it alone.
 //! - `xlog`, `frame_buffer`: the log to which frames are appended, and the bytes of one frame.
@@ -15,6 +16,7 @@
 //! crash leaves of them; `specs/Log` the log at every moment; `specs/Errors` causes.
 #![tactic(auto)]
 
+mod entry;
 mod error;
 mod frame_buffer;
 mod laws;

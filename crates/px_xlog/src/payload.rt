@@ -8,7 +8,7 @@ mod write;
 use px_bytes::{LONGEST_PAYLOAD, SHORTEST_PAYLOAD};
 pub use read::read_change;
 pub use stand::may_stand;
-pub use write::{end_bytes, put_change};
+pub use write::{append_put, end_bytes, put_change};
 
 /// The bytes of a payload without a row, which is the shortest there is.
 pub const END_SIZE: usize = SHORTEST_PAYLOAD;

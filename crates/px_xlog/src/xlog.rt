@@ -3,6 +3,7 @@ ghost use Rattle.px_site.specs.Cause.{HasCause, IsOwn, NoneFell, Rose};
 ghost use Rattle.px_site.specs.State.{EachMoment, OnFile, OnShort};
 ghost use Rattle.px_told.specs.Changes.{is_end};
 ghost use Rattle.px_told.specs.declared.change.Change.{Change};
+ghost use Rattle.px_xlog.specs.Entry.{change_of};
 ghost use Rattle.px_xlog.specs.Errors.{HasLogCause, IsFaultOf, LeavesUntouched, OnShortage};
 ghost use Rattle.px_xlog.specs.Log.{HasFirst, IsLogOf, full_at, with_frame};
 ghost use Rattle.px_xlog.specs.Payload.{may_hold};
@@ -10,8 +11,10 @@ ghost use Rattle.px_xlog.specs.Contents.{the_log};
 ghost use Rattle.px_xlog.specs.Window.{longest_frame};
 
 use crate::LogError;
+use crate::entry::Entry;
 use crate::frame_buffer::FrameBuffer;
 use crate::place::{FIRST_NUMBER, MOST_FRAMES, ONLY_SEGMENT, log_file};
+use px_model::Write;
 use px_site::{Fault, Site, SiteError};
 use px_told::Change;
 use std::alloc::{AllocError, Global};
@@ -79,16 +82,61 @@ impl Xlog {
         ensures cause { IfErr result (HasLogCause self.old (W.counts site.old) (W.counts site.new)) }
         ensures own { IfErr result (IsFaultOf Fault.Write) }
     {
+        self.append_entry(site, &Entry::of(change))
+    }
+
+    /// Appends a frame of a write of the transaction with this stored number, as `append` does.
+    pub fn append_put<W: Site>(
+        &mut self,
+        site: &mut W,
+        xn: u64,
+        write: &Write,
+    ) -> Result<u64, LogError>
+        requires { may_hold self.old.tables self.old.frames (Change.Put xn write.now) ≡ true }
+        ensures number { IfOk result (λ number. number ≡ self.old.frames) }
+        ensures marks { OnOk result (self.new ≡ with_frame (Change.Put xn write.now) self.old) }
+        ensures as_before { OnErr result (self.new ≡ self.old) }
+        ensures logged { W.tells → (changes : List Change) → IsLogOf self.old changes (W.state site.old)
+            → OnOk result (IsLogOf self.new (changes ++ Change.Put xn write.now ∷ []) (W.state site.new)) }
+        ensures untouched { W.tells → IfErr result (LeavesUntouched (W.state site.old) (W.state site.new)) }
+        ensures moments { W.tells → (changes : List Change) → IsLogOf self.old changes (W.state site.old)
+            → EachMoment (OnFile the_log (W.state site.old).now (HasFirst self.old.durable (changes ++ Change.Put xn write.now ∷ []))) (W.state site.old) (W.state site.new) }
+        ensures full { full_at self.old ≡ Some self.old.frames → IsErrOf result (LogError.LogFull self.old.frames) }
+        ensures none_fell { NoneFell (W.counts site.old) (W.counts site.new) }
+        ensures cause { IfErr result (HasLogCause self.old (W.counts site.old) (W.counts site.new)) }
+        ensures own { IfErr result (IsFaultOf Fault.Write) }
+    {
+        self.append_entry(site, &Entry::Put { xn, write })
+    }
+
+    // The same for an entry.
+    fn append_entry<W: Site>(&mut self, site: &mut W, entry: &Entry<'_>) -> Result<u64, LogError>
+        requires { may_hold self.old.tables self.old.frames (change_of entry.now) ≡ true }
+        ensures number { IfOk result (λ number. number ≡ self.old.frames) }
+        ensures marks { OnOk result (self.new ≡ with_frame (change_of entry.now) self.old) }
+        ensures as_before { OnErr result (self.new ≡ self.old) }
+        ensures logged { W.tells → (changes : List Change) → IsLogOf self.old changes (W.state site.old)
+            → OnOk result (IsLogOf self.new (changes ++ change_of entry.now ∷ []) (W.state site.new)) }
+        ensures untouched { W.tells → IfErr result (LeavesUntouched (W.state site.old) (W.state site.new)) }
+        ensures moments { W.tells → (changes : List Change) → IsLogOf self.old changes (W.state site.old)
+            → EachMoment (OnFile the_log (W.state site.old).now (HasFirst self.old.durable (changes ++ change_of entry.now ∷ []))) (W.state site.old) (W.state site.new) }
+        ensures full { full_at self.old ≡ Some self.old.frames → IsErrOf result (LogError.LogFull self.old.frames) }
+        ensures room { is_end (change_of entry.now) ≡ true
+            → IfErr result (λ error. OnShortage error (Rose (W.counts site.old).shorts (W.counts site.new).shorts)) }
+        ensures none_fell { NoneFell (W.counts site.old) (W.counts site.new) }
+        ensures cause { IfErr result (HasLogCause self.old (W.counts site.old) (W.counts site.new)) }
+        ensures own { IfErr result (IsFaultOf Fault.Write) }
+    {
         let number = self.frames;
         if number >= MOST_FRAMES {
             return Err(LogError::LogFull(number));
         }
-        self.buffer.fill(number, change)?;
+        self.buffer.fill(number, entry)?;
         let frame = self.buffer.as_slice();
         site.write_at(log_file(), self.size, frame)?;
         self.size += frame.len() as u64;
         self.frames = number + 1;
-        self.spare = spare_after(self.spare, change);
+        self.spare = spare_after(self.spare, entry);
         Ok(number)
     }
 
@@ -164,11 +212,11 @@ impl Xlog {
     }
 }
 
-// How many ends have their room once this change is appended.
-fn spare_after(spare: u32, change: &Change) -> u32
-    ensures { result ≡ (if is_end change.now then spare - 1 else spare) }
+// How many ends have their room once this entry is appended.
+fn spare_after(spare: u32, entry: &Entry<'_>) -> u32
+    ensures { result ≡ (if is_end (change_of entry.now) then spare - 1 else spare) }
 {
-    if change.is_end() {
+    if entry.is_end() {
         spare.saturating_sub(1)
     } else {
         spare

@@ -4,6 +4,7 @@ ghost use Rattle.px_model.specs.declared.write.Write.{Write};
 ghost use Rattle.px_machine_laws.specs.Writers.{writer_of, last_write_of};
 ghost use Rattle.px_told.specs.declared.change.Change.{Change};
 ghost use Rattle.px_xlog.specs.Payload.{may_hold};
+ghost use Rattle.px_core.specs.Errors.{kept_after, of_log};
 ghost use Rattle.px_core.specs.Appending.{Appends, AppendFails, Flushes, FlushFails, LeavesFronts, MayPut};
 
 use super::Core;
@@ -26,14 +27,13 @@ impl<W: Site> Core<W> {
         ensures machine { self.new.machine ≡ self.old.machine }
         ensures none_fell { NoneFell (W.counts self.old.site) (W.counts self.new.site) }
     {
-        let Some(xn) = self.sessions.stored_writer(session) else {
+        let Some((xn, write)) = self.sessions.last_put(session) else {
             return Ok(());
         };
-        let Some(write) = self.sessions.last_write(session) else {
-            return Ok(());
-        };
-        let write = write.copy()?;
-        self.append(&Change::Put { xn, write })
+        match self.log.append_put(&mut self.site, xn, write) {
+            Ok(_number) => Ok(()),
+            Err(error) => Err(self.after_log_error(error)),
+        }
     }
 
     // Appends a frame of the change. A fault breaks the core.
@@ -47,11 +47,21 @@ impl<W: Site> Core<W> {
     {
         match self.log.append(&mut self.site, change) {
             Ok(_number) => Ok(()),
-            Err(LogError::OutOfMemory) => Err(CoreError::OutOfMemory),
-            Err(LogError::LogFull(number)) => Err(CoreError::LogFull(number)),
-            Err(LogError::Fault(fault)) => {
+            Err(error) => Err(self.after_log_error(error)),
+        }
+    }
+
+    // What the core answers where a frame isn't appended. It keeps a fault: it is broken by it.
+    fn after_log_error(&mut self, error: LogError) -> CoreError
+        ensures answer { result ≡ of_log error }
+        ensures keeps { self.new ≡ record self.old { error = kept_after error self.old.error } }
+    {
+        match error {
+            LogError::OutOfMemory => CoreError::OutOfMemory,
+            LogError::LogFull(number) => CoreError::LogFull(number),
+            LogError::Fault(fault) => {
                 self.error = Some(SiteError::Fault(fault));
-                Err(CoreError::Fault(fault))
+                CoreError::Fault(fault)
             }
         }
     }

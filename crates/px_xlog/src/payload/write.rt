@@ -28,13 +28,20 @@ fn append_change(out: &mut Vec<u8>, change: &Change) -> Result<(), AllocError>
     ensures err { OnErr result (take (length out.old.items) out.new.items ≡ out.old.items) }
 {
     match change {
-        Change::Put { xn, write } => {
-            append_head(out, KIND_PUT, *xn, 0)?;
-            append_write(out, write)
-        }
+        Change::Put { xn, write } => append_put(out, *xn, write),
         Change::Commit { xn, commit } => append_end(out, KIND_COMMIT, *xn, *commit),
         Change::Rollback { xn } => append_end(out, KIND_ROLLBACK, *xn, 0),
     }
+}
+
+/// Appends the bytes of a write of this transaction. An error may leave a part of them.
+pub fn append_put(out: &mut Vec<u8>, xn: u64, write: &Write) -> Result<(), AllocError>
+    requires { is_change (Change.Put xn write.now) ≡ true }
+    ensures ok { OnOk result (out.new.items ≡ out.old.items ++ change_text (Change.Put xn write.now)) }
+    ensures err { OnErr result (take (length out.old.items) out.new.items ≡ out.old.items) }
+{
+    append_head(out, KIND_PUT, xn, 0)?;
+    append_write(out, write)
 }
 
 fn append_end(out: &mut Vec<u8>, kind: u8, xn: u64, commit: u64) -> Result<(), AllocError>
