@@ -1,4 +1,5 @@
 pub mod Committed
 pub mod Numbered
+pub mod Replaced
 pub mod Serving
 pub mod Walks

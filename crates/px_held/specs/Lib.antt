@@ -1,3 +1,4 @@
 pub mod Errors
+pub mod Linking
 pub mod Reading
 pub mod Serving
