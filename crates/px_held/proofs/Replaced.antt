@@ -1,13 +1,10 @@
 -- One of the tables replaced by another one with its number.
-use Rattle.std.proofs.Common.{◌≡◌, ◌≢◌, ℕ, zero, suc, ◌+◌, ◌-◌, ◌<◌, ◌≤◌, true, false, cond, eqb, ⊎_elim, List, [], ◌∷◌, length, map, set, get_or, Option, Some, None, refl, sym, ap, subst, ◌∙◌, arith}
-use Rattle.std.specs.Prelude.{IfSome}
+use Rattle.std.proofs.Common.{◌≡◌, ◌≢◌, ℕ, zero, suc, ◌+◌, ◌-◌, ◌<◌, cond, eqb, ⊎_elim, List, [], ◌∷◌, length, map, set, get_or, Option, Some, None, Result, Ok, Err, sym, ap, subst, ◌∙◌, arith}
+use Rattle.std.specs.Prelude.{IfOk, IfSome}
 use Rattle.std.proofs.lemmas.Bool.{cases_eq, eq-eqb, ne_eqb}
 use Rattle.std.proofs.lemmas.List.{get_or_default, get_or-set_same, length-set}
-use Rattle.px_cells.specs.declared.header.Header.{Header}
-use Rattle.px_cells.specs.declared.slot.Slot.{Slot}
 use Rattle.px_chain.specs.Cells.{cell_of}
 use Rattle.px_chain.specs.Links.{IsStored, link_cells}
-use Rattle.px_chain.specs.Sound.{IsSound}
 use Rattle.px_chain.specs.Table.{Table, laid}
 use Rattle.px_history.specs.Steps.{after_put, layout_linked}
 use Rattle.px_history.specs.Store.{Store}
@@ -15,7 +12,7 @@ use Rattle.px_history.proofs.Agreeing.{link_of}
 use Rattle.px_history.specs.Written.{change_of}
 use Rattle.px_laid.specs.Whole.{AllFrom}
 use Rattle.px_opened.specs.Opened.{numbered_from, tables_of}
-use Rattle.px_shown.specs.Changes.{taken_slot, with_link}
+use Rattle.px_shown.specs.Changes.{taken_slot}
 use Rattle.px_shown.specs.Tables.{with_table}
 use Rattle.px_shown.proofs.Changes.{link_stays_sound}
 use Rattle.px_site.specs.State.{State}
@@ -71,6 +68,11 @@ numbers_kept short first (old ∷ others) zero table within all its =
 numbers_kept short first (old ∷ others) (suc place) table within all its =
     let on : first + suc place ≡ suc first + place = omega arith in
     (all.0, numbers_kept short (suc first) others place table (omega (arith, within)) all.1 (subst (λ (n : ℕ). IsNumbered short n table) on its))
+
+-- what follows from what holds of a result
+pub if_so : {X E : Type 0} (P Q : X → Type 0) (r : Result X E) → ((x : X) → P x → Q x) → IfOk r P → IfOk r Q
+if_so P Q (Ok x) so is = so x is
+if_so P Q (Err e) so is = tt
 
 -- ---- what is held
 
@@ -146,7 +148,7 @@ serves_still site held store number old table there at same serves =
     serving site (with_held held number table) store (record { tables = λ n. same_tables held number old table n there at same ∙ are.tables n; sound = are.sound })
 
 -- in its place the store's table with other cells
-tables_replaced : (site : State) (held : HeldTables) (store : Store) (number : ℕ) (table : Held) (after : Table) (n : ℕ) → HasTable held number
+pub tables_replaced : (site : State) (held : HeldTables) (store : Store) (number : ℕ) (table : Held) (after : Table) (n : ℕ) → HasTable held number
     → table_of table.cells ≡ after → Serves site held store → tables_of (with_held held number table).tables n ≡ with_table store.tables number after n
 tables_replaced site held store number table after n there is serves =
     replaced held number table n there

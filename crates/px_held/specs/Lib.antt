@@ -2,3 +2,4 @@ pub mod Errors
 pub mod Linking
 pub mod Reading
 pub mod Serving
+pub mod Unlinking

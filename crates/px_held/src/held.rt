@@ -12,6 +12,7 @@ ghost use Rattle.px_held.specs.Serving.{AreNumbered, IsTableOf, Serves};
 
 mod linking;
 mod reading;
+mod unlinking;
 
 use crate::error::HeldError;
 use px_cells::CellKind;

@@ -25,5 +25,5 @@ pub use laws::{
     an_end_changes_no_table, serves_elsewhere, tables_that_open_are_numbered,
     the_newest_commit_stands_in_the_cells, what_is_served_is_one,
 };
-pub use prepared::Prepared;
+pub use prepared::{Prepared, PreparedUnlink};
 pub use reader::Reader;

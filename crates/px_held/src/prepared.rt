@@ -5,7 +5,7 @@ ghost use Rattle.px_held.specs.Linking.{HasPlaceFor, IsReady, step_of};
 ghost use Rattle.px_held.specs.Serving.{HeldTables};
 
 use px_cells::Slot;
-use px_tables::{Linking, Place};
+use px_tables::{Linking, Place, Unlinking};
 
 /// A version of a row of this table that is prepared.
 #[derive(Debug, Drop)]
@@ -26,4 +26,11 @@ impl Prepared {
         let linking = place.link(slot);
         Prepared { table, linking }
     }
+}
+
+/// Versions of a row of this table that are prepared to go.
+#[derive(Debug, Drop)]
+pub struct PreparedUnlink {
+    pub table: u8,
+    pub unlinking: Unlinking,
 }

@@ -1,5 +1,4 @@
-use Rattle.std.proofs.Common.{◌≡◌, map, Result, Ok, Err, sym, subst, ◌∙◌}
-use Rattle.std.specs.Prelude.{IfOk}
+use Rattle.std.proofs.Common.{◌≡◌, map, sym, subst, ◌∙◌}
 use Rattle.px_chain.specs.Cells.{cell_of}
 use Rattle.px_chain.specs.Links.{link_cells}
 use Rattle.px_history.specs.Store.{Store}
@@ -7,12 +6,8 @@ use Rattle.px_history.specs.Written.{change_of}
 use Rattle.px_site.specs.State.{State}
 use Rattle.px_held.specs.Linking.{IsReady, step_of}
 use Rattle.px_held.specs.Serving.{HeldTables, Serves}
-use Rattle.px_held.proofs.Replaced.{cells_are, held_there, prepared_there}
+use Rattle.px_held.proofs.Replaced.{cells_are, held_there, if_so, prepared_there}
 use Rattle.px_held.proofs.held.Held.cells_of.Goals as goal
-
-if_so : {X E : Type 0} (P Q : X → Type 0) (r : Result X E) → ((x : X) → P x → Q x) → IfOk r P → IfOk r Q
-if_so P Q (Ok x) so is = so x is
-if_so P Q (Err e) so is = tt
 
 pub returns : goal.returns
 returns c =
