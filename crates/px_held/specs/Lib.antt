@@ -1,3 +1,5 @@
 pub mod Errors
+pub mod Linking
 pub mod Reading
 pub mod Serving
+pub mod Unlinking

@@ -1,5 +1,5 @@
 -- When tables serve a store.
-use Rattle.std.specs.Prelude.{◌≡◌, ℕ, List}
+use Rattle.std.specs.Prelude.{◌≡◌, ℕ, List, length}
 use Rattle.px_cells.specs.declared.cell.CellKind.{CellKind}
 use Rattle.px_laid.specs.Whole.{AllFrom}
 use Rattle.px_history.specs.Store.{Store}
@@ -13,6 +13,11 @@ use Rattle.px_tables.specs.Held.{Held, table_of}
 pub record HeldTables : Type 0 where
   pub short : ℕ
   pub tables : List Held
+
+-- as many tables, in a store with the same short length
+pub record HasSameForm (held other : HeldTables) : Type 0 where
+  pub short : other.short ≡ held.short
+  pub count : length other.tables ≡ length held.tables
 
 -- the table has this number, in a store with that short length
 pub record IsNumbered (short number : ℕ) (table : Held) : Type 0 where

@@ -10,7 +10,9 @@ ghost use Rattle.px_tables.specs.Held.{table_of};
 ghost use Rattle.px_held.specs.Errors.{IsDamage};
 ghost use Rattle.px_held.specs.Serving.{AreNumbered, IsTableOf, Serves};
 
+mod linking;
 mod reading;
+mod unlinking;
 
 use crate::error::HeldError;
 use px_cells::CellKind;
@@ -44,7 +46,8 @@ impl Held {
     pub fn new(short: u32, tables: Vec<Table>) -> Held
         requires short { IsTrue (is_short short) }
         requires numbered { AreNumbered short tables.items }
-        ensures { (site : State) (store : Store) → ((t : ℕ) → tables_of tables.items t ≡ store.tables t)
+        ensures is { result ≡ record { short = short; tables = tables.items } }
+        ensures serves { (site : State) (store : Store) → ((t : ℕ) → tables_of tables.items t ≡ store.tables t)
             → AreSound short store.tables store.layouts → Serves site result store }
     {
         Held { short, tables }

@@ -15,6 +15,7 @@
 mod error;
 mod held;
 mod laws;
+mod prepared;
 mod reader;
 mod walking;
 
@@ -24,4 +25,5 @@ pub use laws::{
     an_end_changes_no_table, serves_elsewhere, tables_that_open_are_numbered,
     the_newest_commit_stands_in_the_cells, what_is_served_is_one,
 };
+pub use prepared::{Prepared, PreparedUnlink};
 pub use reader::Reader;

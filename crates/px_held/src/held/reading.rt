@@ -7,7 +7,7 @@ ghost use Rattle.px_tables.specs.Keys.{HasNoRow, IsRowOf};
 ghost use Rattle.px_tables.specs.Order.{HasNoKeyPast, IsNextKey};
 ghost use Rattle.px_held.specs.Errors.{HasReadCause, IsPassing};
 ghost use Rattle.px_held.specs.Reading.{newest_committed};
-ghost use Rattle.px_held.specs.Serving.{Serves};
+ghost use Rattle.px_held.specs.Serving.{HasSameForm, Serves};
 
 use super::Held;
 use crate::error::HeldError;
@@ -29,6 +29,7 @@ impl Held {
     ) -> Result<Option<u32>, HeldError>
         ensures row { W.tells → (store : Store) → Serves (W.state site.old) self.old store
             → IfOk result (λ found. MatchOption found (HasNoRow (store.tables table) key.now) (λ row. IsRowOf (store.tables table) key.now row)) }
+        ensures form { HasSameForm self.old self.new }
         ensures keeps { W.tells → (store : Store) → Serves (W.state site.old) self.old store → Serves (W.state site.new) self.new store }
         ensures same { W.tells → W.state site.new ≡ W.state site.old }
         ensures sound { W.tells → (store : Store) → Serves (W.state site.old) self.old store → IfErr result IsPassing }
@@ -51,6 +52,7 @@ impl Held {
         ensures next { W.tells → (store : Store) → Serves (W.state site.old) self.old store
             → IfOk result (λ next. MatchOption next (HasNoKeyPast (store.tables table) (option_map (λ key. key.now) after.entry))
             (λ found. IsNextKey (store.tables table) (option_map (λ key. key.now) after.entry) found.0 found.1)) }
+        ensures form { HasSameForm self.old self.new }
         ensures keeps { W.tells → (store : Store) → Serves (W.state site.old) self.old store → Serves (W.state site.new) self.new store }
         ensures same { W.tells → W.state site.new ≡ W.state site.old }
         ensures sound { W.tells → (store : Store) → Serves (W.state site.old) self.old store → IfErr result IsPassing }
@@ -77,6 +79,7 @@ impl Held {
     ) -> Result<Option<u32>, HeldError>
         ensures seen { W.tells → (store : Store) → Serves (W.state site.old) self.old store → IsUsedRow (store.tables table) row
             → IfOk result (λ slot. slot ≡ slot_seen reader.now.xacts.now store reader.now.own reader.now.snapshot table row) }
+        ensures form { HasSameForm self.old self.new }
         ensures keeps { W.tells → (store : Store) → Serves (W.state site.old) self.old store → Serves (W.state site.new) self.new store }
         ensures same { W.tells → W.state site.new ≡ W.state site.old }
         ensures sound { W.tells → (store : Store) → Serves (W.state site.old) self.old store → IsUsedRow (store.tables table) row → IfErr result IsPassing }
@@ -97,6 +100,7 @@ impl Held {
     ) -> Result<Option<SlotView>, HeldError>
         ensures newest { W.tells → (store : Store) → Serves (W.state site.old) self.old store → IsUsedRow (store.tables table) row
             → IfOk result (λ view. view ≡ newest_committed xacts.now store table row) }
+        ensures form { HasSameForm self.old self.new }
         ensures keeps { W.tells → (store : Store) → Serves (W.state site.old) self.old store → Serves (W.state site.new) self.new store }
         ensures same { W.tells → W.state site.new ≡ W.state site.old }
         ensures sound { W.tells → (store : Store) → Serves (W.state site.old) self.old store → IsUsedRow (store.tables table) row → IfErr result IsPassing }
@@ -111,6 +115,7 @@ impl Held {
     pub fn slot<W: Site>(&mut self, site: &mut W, table: u8, slot: u32) -> Result<Slot, HeldError>
         ensures slot { W.tells → (store : Store) → Serves (W.state site.old) self.old store → IsSlot (store.tables table) slot
             → IfOk result (λ copy. copy ≡ (store.tables table).slot slot) }
+        ensures form { HasSameForm self.old self.new }
         ensures keeps { W.tells → (store : Store) → Serves (W.state site.old) self.old store → Serves (W.state site.new) self.new store }
         ensures same { W.tells → W.state site.new ≡ W.state site.old }
         ensures sound { W.tells → (store : Store) → Serves (W.state site.old) self.old store → IsSlot (store.tables table) slot → IfErr result IsPassing }
