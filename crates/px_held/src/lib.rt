@@ -2,14 +2,16 @@
 //! answer a fault of a read or that a cell is damaged: once the tables' cells are read from their files, the calls say the same.
 //!
 //! - `held`: `Held`, the tables. `held/reading` finds a key's row and the keys in their order, and says which version of a row a
-//!   reader sees, and which one was committed last.
-//! - `reader`: `Reader`, who reads. `walking`: walks along the chain of a row.
+//!   reader sees, and which one was committed last; `held/linking` takes the place for a new version and lays it, `held/unlinking`
+//!   that versions go. A change has two halves: what prepares it changes no cell, and what lays it takes no memory and can't fail.
+//! - `prepared`: `Prepared` and `PreparedUnlink`, what is prepared. `reader`: `Reader`, who reads. `walking`: walks along the chain
+//!   of a row.
 //! - `error`: `HeldError`, why a call gives up.
 //! - `laws`: what serves a store asks of the site only the tables' files, and of the store only its tables; the newest committed
 //!   version is the machine's.
 //!
-//! `specs/Serving` says when tables serve a store, `specs/Reading` which version was committed last, `specs/Errors` the causes
-//! of errors.
+//! `specs/Serving` says when tables serve a store, `specs/Reading` which version was committed last, `specs/Linking` and
+//! `specs/Unlinking` what is prepared and which step of the store it is, `specs/Errors` the causes of errors.
 #![tactic(auto)]
 
 mod error;
