@@ -1,6 +1,6 @@
 -- What holds at each moment while a machine works on a store: whatever a crash then leaves has all that was acknowledged, and nothing
 -- that the machine hasn't made.
-use Rattle.std.specs.Prelude.{◌≡◌, ℕ, ◌+◌, ◌-◌, ◌≤◌, List, [], length, map, take}
+use Rattle.std.specs.Prelude.{◌≡◌, ℕ, ◌+◌, ◌-◌, ◌≤◌, false, List, [], length, map, take}
 use Rattle.px_apply.specs.Contents.{Contents}
 use Rattle.px_change.specs.Text.{change_text}
 use Rattle.px_change.specs.declared.change.Change.{Change}
@@ -32,8 +32,9 @@ pub record IsValid (restart : Restart) (now : Moment) : Type 0 where
   pub second_rests : now.files (RestartFile 1) ≡ at_rest second
   pub picked : IsPicked first second restart
 
--- the log is one segment, which the restart names, from the first frame on; no other segment has a byte
-pub record IsOneSegment (restart : Restart) (now : Moment) : Type 0 where
+-- until there are segments: all frames are known and stand in the one segment that the restart names, and no other has a byte
+pub record IsOneSegment (restart : Restart) (life : Life) (now : Moment) : Type 0 where
+  pub known : life.first ≡ 0
   pub segment : restart.segment ≡ 1
   pub first : restart.first ≡ 0
   pub others : (segment : ℕ) → 2 ≤ segment → now.files (Xlog segment) ≡ at_rest []
@@ -51,20 +52,18 @@ HasOthersOf before now = (name : FileName) → same_file the_log name ≡ false 
 -- ---- a moment
 
 -- Of the life of the machine's store, all that can be reached from the restart is kept. Each front that a crash may leave has the rows that the
--- machine published by so many commits: no fewer than `least`, and no more than the machine has made.
+-- machine published by so many commits: no fewer than `least`, and no more than it has made.
 pub record Lasts (parts : Parts) (least : ℕ) (m : Machine) (life : Life) (restart : Restart) (marks : Marks) (now : Moment) : Type 0 where
   pub is_life : IsLife parts restart.short restart.tables (m.base + 1) m.opening life
-  pub from_first : life.first ≡ 0
-  pub segment : IsOneSegment restart now
+  pub segment : IsOneSegment restart life now
   pub valid : IsValid restart now
   pub reachable : IsReachable IsPlainImage restart.short restart life marks now
   pub publishes : PublishesFronts parts restart life marks m
   pub acknowledged : (frame : ℕ) → marks.durable ≤ frame → frame ≤ end_of life → least ≤ commits_at restart life frame
   pub made : (frame : ℕ) → marks.durable ≤ frame → frame ≤ end_of life → commits_at restart life frame ≤ commits m
+  -- the whole of the log has each commit, one in a frame at most
   pub all_commits : commits_at restart life (end_of life) ≡ commits m
   pub few : commits m ≤ end_of life
-  -- the commits at the opening are among them
-  pub since : m.before ≤ least
 
 -- the files stand for what the machine published by a commit from `least` to `most`
 pub record HasBetween (parts : Parts) (least most : ℕ) (m : Machine) (image : Contents) : Type 0 where

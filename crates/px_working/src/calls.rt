@@ -7,96 +7,155 @@ ghost use Rattle.px_cells.specs.declared.header.Header.{Header};
 ghost use Rattle.px_cells.specs.declared.slot.Slot.{Slot};
 ghost use Rattle.px_chain.specs.Sound.{IsUsedRow};
 ghost use Rattle.px_chain_laws.specs.Writing as calls;
-ghost use Rattle.px_history.specs.Fitting.{PutFits};
+ghost use Rattle.px_history.specs.Fitting.{PlacesFit};
 ghost use Rattle.px_history.specs.Steps.{Step};
-ghost use Rattle.px_history.specs.Store.{IsTidied, versions_of};
+ghost use Rattle.px_history.specs.Store.{IsOpen, IsTidied, versions_of};
 ghost use Rattle.px_history.specs.Written.{change_of};
-ghost use Rattle.px_life.specs.Life.{IsLife, Life, end_of, grown, store_at};
+ghost use Rattle.px_life.specs.Life.{IsLife, Life};
 ghost use Rattle.px_model.specs.Machine.{Machine, commits, fresh};
 ghost use Rattle.px_model.specs.declared.limits.TheConstants.{STORED_NUMBERS_END};
 ghost use Rattle.px_model.specs.declared.machine.Open.{Open};
 ghost use Rattle.px_model.specs.declared.row.Row.{Row};
+ghost use Rattle.px_reached.specs.Reachable.{Marks};
+ghost use Rattle.px_recs.specs.Text.{SlotFits};
 ghost use Rattle.px_restart.specs.declared.restart.Restart.{Restart};
 ghost use Rattle.px_shown.specs.Parts.{Parts};
 ghost use Rattle.px_shown.specs.Shown.{Shows};
-ghost use Rattle.px_working.specs.Follows.{Follows};
+ghost use Rattle.px_site.specs.State.{Moment};
+ghost use Rattle.px_xlog.specs.Contents.{the_log};
+ghost use Rattle.px_working.specs.Follows.{Follows, last_store, with_step};
+ghost use Rattle.px_working.specs.Lasts.{HasOthersOf, Lasts, LeavesFronts};
 ghost use Rattle.px_working.specs.Works.{Works};
 
 use px_cell_laws::{
     a_tidied_store_holds_a_fresh_machine, a_write_is_a_put, an_end_is_a_step,
     committed_rows_are_shown, other_calls_leave_the_cells,
 };
+use px_chain_laws::machines_are_kept;
+use px_history::{one_writer_of_a_row, what_a_frame_may_hold};
 use px_logged::what_was_published_stays;
 
-/// A write that is answered follows with the link of its version, and the machine works on after it.
-pub fn a_write_follows()
-    ensures follows { (parts : Parts) (m : Machine) (life : Life) (restart : Restart) (session : ℕ) (call : Call) (t : ℕ) (header : Header) (slot : Slot)
-        → let store = store_at life (end_of life) in let step = Step.put t header slot in
-        IsLife parts restart.short restart.tables (m.base + 1) m.opening life → Works parts m life restart → end_of life ≤ 2 ^ 48
-        → IsWriteBy parts m store session call t header slot → PutFits restart.tables t header slot
-        → Follows parts m life restart step (change_of restart.short store step) (state_after m session call) }
-    ensures works { (parts : Parts) (m : Machine) (life : Life) (restart : Restart) (session : ℕ) (call : Call) (t : ℕ) (header : Header) (slot : Slot)
-        → let store = store_at life (end_of life) in let step = Step.put t header slot in
-        IsLife parts restart.short restart.tables (m.base + 1) m.opening life → Works parts m life restart → end_of life ≤ 2 ^ 48
-        → IsWriteBy parts m store session call t header slot → PutFits restart.tables t header slot
-        → Works parts (state_after m session call) (grown life step (change_of restart.short store step)) restart }
+use crate::lasting::{a_step_lasts, another_machine_lasts};
+
+/// A write that is answered follows with the link of its version. The store lasts at each moment at which a crash may leave its frame
+/// or not, and the machine works on after it.
+pub fn a_write_goes_on()
+    ensures follows { (parts : Parts) (least : ℕ) (m : Machine) (life : Life) (restart : Restart) (marks : Marks) (before : Moment)
+        (session : ℕ) (call : Call) (t : ℕ) (header : Header) (slot : Slot)
+        → Lasts parts least m life restart marks before → Works parts m life restart
+        → IsWriteBy parts m (last_store life) session call t header slot → PlacesFit header → SlotFits slot
+        → let step = Step.put t header slot in
+        Follows parts m life restart step (change_of restart.short (last_store life) step) (state_after m session call) }
+    ensures lasts { (parts : Parts) (least : ℕ) (m : Machine) (life : Life) (restart : Restart) (marks : Marks) (before now : Moment)
+        (session : ℕ) (call : Call) (t : ℕ) (header : Header) (slot : Slot)
+        → Lasts parts least m life restart marks before → Works parts m life restart
+        → IsWriteBy parts m (last_store life) session call t header slot → PlacesFit header → SlotFits slot → HasOthersOf before now
+        → let later = with_step restart.short life (Step.put t header slot) in
+        LeavesFronts marks.durable later.changes (now.files the_log) → Lasts parts least (state_after m session call) later restart marks now }
+    ensures works { (parts : Parts) (least : ℕ) (m : Machine) (life : Life) (restart : Restart) (marks : Marks) (before : Moment)
+        (session : ℕ) (call : Call) (t : ℕ) (header : Header) (slot : Slot)
+        → Lasts parts least m life restart marks before → Works parts m life restart
+        → IsWriteBy parts m (last_store life) session call t header slot
+        → Works parts (state_after m session call) (with_step restart.short life (Step.put t header slot)) restart }
 {
     a_write_is_a_put();
     committed_rows_are_shown();
+    machines_are_kept();
     what_was_published_stays();
+    what_a_frame_may_hold();
+    a_step_lasts();
 }
 
-/// The end of a transaction with writes follows with its commit, which has the next number, or its rollback; and the machine works on after it.
-pub fn an_end_follows()
-    ensures commit { (parts : Parts) (m : Machine) (life : Life) (restart : Restart) (session : ℕ) (xact : Open)
-        → let store = store_at life (end_of life) in let step = Step.commit (m.base + xact.number) (commits m + 1) in
-        IsLife parts restart.short restart.tables (m.base + 1) m.opening life → Works parts m life restart → commits m ≤ end_of life → end_of life ≤ 2 ^ 48
+/// A commit of a transaction with writes follows with a Commit that has the next number. The store lasts at each moment at which a crash
+/// may leave its frame or not, with no commit more acknowledged until a sync, and the machine works on after it.
+pub fn a_commit_goes_on()
+    ensures follows { (parts : Parts) (least : ℕ) (m : Machine) (life : Life) (restart : Restart) (marks : Marks) (before : Moment) (session : ℕ) (xact : Open)
+        → Lasts parts least m life restart marks before → Works parts m life restart
+        → open_of m session ≡ Some xact → xact.writes ≢ [] → commits m + 1 < 2 ^ 64
+        → let step = Step.commit (m.base + xact.number) (commits m + 1) in
+        Follows parts m life restart step (change_of restart.short (last_store life) step) (state_after m session Commit) }
+    ensures lasts { (parts : Parts) (least : ℕ) (m : Machine) (life : Life) (restart : Restart) (marks : Marks) (before now : Moment) (session : ℕ) (xact : Open)
+        → Lasts parts least m life restart marks before → Works parts m life restart
+        → open_of m session ≡ Some xact → xact.writes ≢ [] → commits m + 1 < 2 ^ 64 → HasOthersOf before now
+        → let later = with_step restart.short life (Step.commit (m.base + xact.number) (commits m + 1)) in
+        LeavesFronts marks.durable later.changes (now.files the_log) → Lasts parts least (state_after m session Commit) later restart marks now }
+    ensures works { (parts : Parts) (least : ℕ) (m : Machine) (life : Life) (restart : Restart) (marks : Marks) (before : Moment) (session : ℕ) (xact : Open)
+        → Lasts parts least m life restart marks before → Works parts m life restart
         → open_of m session ≡ Some xact → xact.writes ≢ []
-        → Follows parts m life restart step (change_of restart.short store step) (state_after m session Commit) }
-    ensures committed { (parts : Parts) (m : Machine) (life : Life) (restart : Restart) (session : ℕ) (xact : Open)
-        → let store = store_at life (end_of life) in let step = Step.commit (m.base + xact.number) (commits m + 1) in
-        IsLife parts restart.short restart.tables (m.base + 1) m.opening life → Works parts m life restart → commits m ≤ end_of life → end_of life ≤ 2 ^ 48
-        → open_of m session ≡ Some xact → xact.writes ≢ []
-        → Works parts (state_after m session Commit) (grown life step (change_of restart.short store step)) restart }
-    ensures rollback { (parts : Parts) (m : Machine) (life : Life) (restart : Restart) (session : ℕ) (xact : Open)
-        → let store = store_at life (end_of life) in let step = Step.rollback (m.base + xact.number) in
-        IsLife parts restart.short restart.tables (m.base + 1) m.opening life → Works parts m life restart → end_of life ≤ 2 ^ 48
-        → open_of m session ≡ Some xact → xact.writes ≢ []
-        → Follows parts m life restart step (change_of restart.short store step) (state_after m session Rollback) }
-    ensures rolled_back { (parts : Parts) (m : Machine) (life : Life) (restart : Restart) (session : ℕ) (xact : Open)
-        → let store = store_at life (end_of life) in let step = Step.rollback (m.base + xact.number) in
-        IsLife parts restart.short restart.tables (m.base + 1) m.opening life → Works parts m life restart → end_of life ≤ 2 ^ 48
-        → open_of m session ≡ Some xact → xact.writes ≢ []
-        → Works parts (state_after m session Rollback) (grown life step (change_of restart.short store step)) restart }
+        → Works parts (state_after m session Commit) (with_step restart.short life (Step.commit (m.base + xact.number) (commits m + 1))) restart }
 {
     an_end_is_a_step();
     committed_rows_are_shown();
+    machines_are_kept();
     what_was_published_stays();
+    one_writer_of_a_row();
+    what_a_frame_may_hold();
+    a_step_lasts();
 }
 
-/// After a call that writes nothing and ends no transaction with writes, whether it is refused or not, the machine works on in the same cells.
-pub fn other_calls_work_on()
+/// A rollback of a transaction with writes follows with a Rollback. The store lasts at each moment at which a crash may leave its frame or
+/// not, and the machine works on after it.
+pub fn a_rollback_goes_on()
+    ensures follows { (parts : Parts) (least : ℕ) (m : Machine) (life : Life) (restart : Restart) (marks : Marks) (before : Moment) (session : ℕ) (xact : Open)
+        → Lasts parts least m life restart marks before → Works parts m life restart
+        → open_of m session ≡ Some xact → xact.writes ≢ []
+        → let step = Step.rollback (m.base + xact.number) in
+        Follows parts m life restart step (change_of restart.short (last_store life) step) (state_after m session Rollback) }
+    ensures lasts { (parts : Parts) (least : ℕ) (m : Machine) (life : Life) (restart : Restart) (marks : Marks) (before now : Moment) (session : ℕ) (xact : Open)
+        → Lasts parts least m life restart marks before → Works parts m life restart
+        → open_of m session ≡ Some xact → xact.writes ≢ [] → HasOthersOf before now
+        → let later = with_step restart.short life (Step.rollback (m.base + xact.number)) in
+        LeavesFronts marks.durable later.changes (now.files the_log) → Lasts parts least (state_after m session Rollback) later restart marks now }
+    ensures works { (parts : Parts) (least : ℕ) (m : Machine) (life : Life) (restart : Restart) (marks : Marks) (before : Moment) (session : ℕ) (xact : Open)
+        → Lasts parts least m life restart marks before → Works parts m life restart
+        → open_of m session ≡ Some xact → xact.writes ≢ []
+        → Works parts (state_after m session Rollback) (with_step restart.short life (Step.rollback (m.base + xact.number))) restart }
+{
+    an_end_is_a_step();
+    committed_rows_are_shown();
+    machines_are_kept();
+    what_was_published_stays();
+    what_a_frame_may_hold();
+    a_step_lasts();
+}
+
+/// Through a call that is refused, through one that neither writes nor ends a transaction, and through an end of a transaction without writes the
+/// store lasts in the same frames, and the machine works on in the same cells.
+pub fn other_calls_go_on()
     ensures refused { (parts : Parts) (m : Machine) (life : Life) (restart : Restart) (session : ℕ) (call : Call) → Works parts m life restart
         → is_refusal (reply_of m session call) ≡ true → Works parts (state_after m session call) life restart }
     ensures reads { (parts : Parts) (m : Machine) (life : Life) (restart : Restart) (session : ℕ) (call : Call) → Works parts m life restart
         → calls.write_of call ≡ None → is_end call ≡ false → Works parts (state_after m session call) life restart }
     ensures wrote_nothing { (parts : Parts) (m : Machine) (life : Life) (restart : Restart) (session : ℕ) (call : Call) (xact : Open) → Works parts m life restart
         → is_end call ≡ true → open_of m session ≡ Some xact → xact.writes ≡ [] → Works parts (state_after m session call) life restart }
+    ensures refused_lasts { (parts : Parts) (least : ℕ) (m : Machine) (life : Life) (restart : Restart) (marks : Marks) (now : Moment) (session : ℕ) (call : Call)
+        → Lasts parts least m life restart marks now → is_refusal (reply_of m session call) ≡ true
+        → Lasts parts least (state_after m session call) life restart marks now }
+    ensures reads_last { (parts : Parts) (least : ℕ) (m : Machine) (life : Life) (restart : Restart) (marks : Marks) (now : Moment) (session : ℕ) (call : Call)
+        → Lasts parts least m life restart marks now → calls.write_of call ≡ None → is_end call ≡ false
+        → Lasts parts least (state_after m session call) life restart marks now }
+    ensures wrote_nothing_lasts { (parts : Parts) (least : ℕ) (m : Machine) (life : Life) (restart : Restart) (marks : Marks) (now : Moment) (session : ℕ) (call : Call) (xact : Open)
+        → Lasts parts least m life restart marks now → is_end call ≡ true → open_of m session ≡ Some xact → xact.writes ≡ []
+        → Lasts parts least (state_after m session call) life restart marks now }
 {
     other_calls_leave_the_cells();
+    machines_are_kept();
+    what_was_published_stays();
+    another_machine_lasts();
 }
 
 /// In a store that was tidied a fresh machine with the rows that it shows works from then on, where the numbers of its versions go up to the base,
-/// and the restart's low mark no further than the next one.
+/// no later number is done or over, and the restart's low mark is no further than the next one.
 pub fn what_begins_works()
     ensures { (parts : Parts) (rows : List Row) (before base : ℕ) (life : Life) (restart : Restart)
-        → let store = store_at life (end_of life) in
+        → let store = last_store life in
         IsLife parts restart.short restart.tables (base + 1) rows life → IsTidied store
         → Shows parts store.tables store.layouts store.done rows
         → ((t row : ℕ) → IsUsedRow (store.tables t) row → All (λ slot. slot.xn ≤ base) (versions_of store t row))
-        → ((xn : ℕ) → base < xn → (store.done xn ≡ false) × (store.over xn ≡ false))
+        → ((xn : ℕ) → base < xn → IsOpen store xn)
         → restart.low ≤ base + 1 → base < STORED_NUMBERS_END
         → Works parts (fresh restart.tables restart.short rows before base) life restart }
 {
     a_tidied_store_holds_a_fresh_machine();
+    machines_are_kept();
 }

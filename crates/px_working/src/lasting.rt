@@ -1,5 +1,7 @@
-ghost use Rattle.std.specs.Prelude.{◌≡◌, ◌+◌, ◌≤◌, ℕ};
+ghost use Rattle.std.specs.Prelude.{◌≡◌, ◌≤◌, ℕ};
 ghost use Rattle.px_apply.specs.Contents.{Contents};
+ghost use Rattle.px_calls.specs.Steps.{state_after};
+ghost use Rattle.px_calls.specs.declared.call.Call.{Call};
 ghost use Rattle.px_change.specs.declared.change.Change.{Change};
 ghost use Rattle.px_history.specs.Steps.{Step};
 ghost use Rattle.px_life.specs.Life.{Life, end_of, grown};
@@ -15,6 +17,7 @@ ghost use Rattle.px_working.specs.Follows.{Follows, KeepsPublished};
 ghost use Rattle.px_working.specs.Lasts.{HasBetween, HasOthersOf, IsOneSegment, Lasts, LeavesFronts};
 
 use px_life::{a_life_grows, commits_go_on, done_goes_on};
+use px_logged::what_was_published_stays;
 use px_reached::what_is_reachable_stands;
 
 /// Whatever a crash leaves while a store lasts stands for what its machine published by such a number of commits.
@@ -25,9 +28,17 @@ pub fn a_crash_leaves_what_lasts()
     what_is_reachable_stands();
 }
 
+/// What stands for the machine before a call stands for the machine after it too, as one that may have made more.
+pub fn what_stood_before_stands()
+    ensures { (parts : Parts) (least : ℕ) (m : Machine) (session : ℕ) (call : Call) (image : Contents) → HasBetween parts least (commits m) m image
+        → HasBetween parts least (commits (state_after m session call)) (state_after m session call) image }
+{
+    what_was_published_stays();
+}
+
 /// A log in one file, of which a crash leaves a front of the life's changes that has the durable ones, is kept.
 pub fn the_log_keeps_its_fronts()
-    ensures { (life : Life) (restart : Restart) (marks : Marks) (now : Moment) → IsOneSegment restart now → life.first ≡ 0
+    ensures { (life : Life) (restart : Restart) (marks : Marks) (now : Moment) → IsOneSegment restart life now
         → LeavesFronts marks.durable life.changes (now.files the_log) → KeepsLog IsPlainImage restart life marks now }
 {}
 
@@ -56,8 +67,8 @@ pub fn a_sync_lasts()
         → Lasts parts (commits m) m life restart (record marks { durable = end_of life }) now }
 {}
 
-/// A call that adds no frame and commits nothing leaves the store lasting for the machine after it.
-pub fn calls_without_frames_last()
+/// The store lasts for each machine that has the same opening, the same number of commits, and has published the same.
+pub fn another_machine_lasts()
     ensures { (parts : Parts) (least : ℕ) (m later : Machine) (life : Life) (restart : Restart) (marks : Marks) (now : Moment)
         → Lasts parts least m life restart marks now → KeepsOpening m later → commits later ≡ commits m → KeepsPublished m later
         → Lasts parts least later life restart marks now }

@@ -5,15 +5,21 @@
 //! chains lie in the cells of the last front. A call that is answered adds a step that *follows* (`specs/Follows`), or leaves the
 //! cells as they are.
 //!
+//! - `growing`: a life with one frame more, and what of it is as it was.
 //! - `lasting`: that what lasts stands, and goes on with each step, each frame appended and each sync.
-//! - `calls`: which step follows with each call of a session, and that the machine works on after it.
+//! - `calls`: which step follows with each call of a session, that the store lasts at each moment of it, and that the machine works on
+//!   after it.
 #![tactic(auto)]
 
 mod calls;
+mod growing;
 mod lasting;
 
-pub use calls::{a_write_follows, an_end_follows, other_calls_work_on, what_begins_works};
+pub use calls::{
+    a_commit_goes_on, a_rollback_goes_on, a_write_goes_on, other_calls_go_on, what_begins_works,
+};
+pub use growing::a_life_has_a_frame_more;
 pub use lasting::{
-    a_crash_leaves_what_lasts, a_step_lasts, a_sync_lasts, calls_without_frames_last,
-    the_log_keeps_its_fronts,
+    a_crash_leaves_what_lasts, a_step_lasts, a_sync_lasts, another_machine_lasts,
+    the_log_keeps_its_fronts, what_stood_before_stands,
 };
