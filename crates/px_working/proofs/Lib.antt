@@ -1,2 +1,10 @@
-pub mod Made
-pub mod Standing
+pub mod Adding
+pub mod Beginning
+pub mod Calling
+pub mod Going
+pub mod Growing
+pub mod Lasting
+pub mod Log
+pub mod Numbers
+pub mod Stepping
+pub mod Tables

@@ -27,15 +27,13 @@ ghost use Rattle.px_working.specs.Follows.{Follows, last_store, with_step};
 ghost use Rattle.px_working.specs.Lasts.{HasOthersOf, Lasts, LeavesFronts};
 ghost use Rattle.px_working.specs.Works.{Works};
 
+use crate::lasting::a_step_lasts;
 use px_cell_laws::{
     a_tidied_store_holds_a_fresh_machine, a_write_is_a_put, an_end_is_a_step,
     committed_rows_are_shown, other_calls_leave_the_cells,
 };
 use px_chain_laws::machines_are_kept;
-use px_history::{one_writer_of_a_row, what_a_frame_may_hold};
-use px_logged::what_was_published_stays;
-
-use crate::lasting::{a_step_lasts, another_machine_lasts};
+use px_history::{histories_are_sound, one_writer_of_a_row, what_a_frame_may_hold};
 
 /// A write that is answered follows with the link of its version. The store lasts at each moment at which a crash may leave its frame
 /// or not, and the machine works on after it.
@@ -61,7 +59,6 @@ pub fn a_write_goes_on()
     a_write_is_a_put();
     committed_rows_are_shown();
     machines_are_kept();
-    what_was_published_stays();
     what_a_frame_may_hold();
     a_step_lasts();
 }
@@ -87,7 +84,6 @@ pub fn a_commit_goes_on()
     an_end_is_a_step();
     committed_rows_are_shown();
     machines_are_kept();
-    what_was_published_stays();
     one_writer_of_a_row();
     what_a_frame_may_hold();
     a_step_lasts();
@@ -114,7 +110,6 @@ pub fn a_rollback_goes_on()
     an_end_is_a_step();
     committed_rows_are_shown();
     machines_are_kept();
-    what_was_published_stays();
     what_a_frame_may_hold();
     a_step_lasts();
 }
@@ -140,8 +135,6 @@ pub fn other_calls_go_on()
 {
     other_calls_leave_the_cells();
     machines_are_kept();
-    what_was_published_stays();
-    another_machine_lasts();
 }
 
 /// In a store that was tidied a fresh machine with the rows that it shows works from then on, where the numbers of its versions go up to the base,
@@ -158,4 +151,5 @@ pub fn what_begins_works()
 {
     a_tidied_store_holds_a_fresh_machine();
     machines_are_kept();
+    histories_are_sound();
 }

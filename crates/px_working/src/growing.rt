@@ -15,7 +15,7 @@ pub fn a_life_has_a_frame_more()
     ensures store { (parts : Parts) (short tables next frame : ℕ) (rows : List Row) (life : Life) (step : Step) (change : Change)
         → IsLife parts short tables next rows life → frame ≤ end_of life → store_at (grown life step change) frame ≡ store_at life frame }
     ensures places { (parts : Parts) (short tables next frame : ℕ) (rows : List Row) (life : Life) (step : Step) (change : Change)
-        → IsLife parts short tables next rows life → frame ≤ end_of life → places_at (grown life step change) frame ≡ places_at life frame }
-    ensures changes { (life : Life) (step : Step) (change : Change) (from to : ℕ) → life.first ≤ from → to ≤ end_of life
+        → IsLife parts short tables next rows life → life.start ≤ frame → frame ≤ end_of life → places_at (grown life step change) frame ≡ places_at life frame }
+    ensures changes { (life : Life) (step : Step) (change : Change) (from to : ℕ) → life.first ≤ from → from ≤ to → to ≤ end_of life
         → between (grown life step change) from to ≡ between life from to }
 {}
