@@ -134,15 +134,6 @@ pub same_rows : (m later : Machine) → KeepsOpening m later → KeepsPublished 
 same_rows m later opening stays count within =
     ap (λ (before : ℕ). published later (count - before)) opening.before ∙ stays (count - m.before) (omega (arith, within))
 
-pub stood : (parts : Parts) (least : ℕ) (m later : Machine) (image : Contents) → KeepsOpening m later → commits m ≤ commits later → KeepsPublished m later
-    → HasBetween parts least (commits m) m image → HasBetween parts least (commits later) later image
-stood parts least m later image opening rose stays between = record {
-  count = between.count;
-  no_less = between.no_less;
-  no_more = omega (arith, between.no_more, rose);
-  stands = subst (StandsFor parts image between.count) (sym (same_rows m later opening stays between.count between.no_more)) between.stands;
-}
-
 pub same_life : (parts : Parts) (short tables : ℕ) (m later : Machine) (life : Life) → KeepsOpening m later → IsLife parts short tables (m.base + 1) m.opening life
     → IsLife parts short tables (later.base + 1) later.opening life
 same_life parts short tables m later life opening is =

@@ -29,11 +29,10 @@ ghost use Rattle.px_working.specs.Works.{Works};
 
 use crate::lasting::a_step_lasts;
 use px_cell_laws::{
-    a_tidied_store_holds_a_fresh_machine, a_write_is_a_put, an_end_is_a_step,
-    committed_rows_are_shown, other_calls_leave_the_cells,
+    a_write_is_a_put, an_end_is_a_step, committed_rows_are_shown, other_calls_leave_the_cells,
 };
 use px_chain_laws::machines_are_kept;
-use px_history::{histories_are_sound, one_writer_of_a_row, what_a_frame_may_hold};
+use px_history::{one_writer_of_a_row, what_a_frame_may_hold};
 
 /// A write that is answered follows with the link of its version. The store lasts at each moment at which a crash may leave its frame
 /// or not, and the machine works on after it.
@@ -135,21 +134,4 @@ pub fn other_calls_go_on()
 {
     other_calls_leave_the_cells();
     machines_are_kept();
-}
-
-/// In a store that was tidied a fresh machine with the rows that it shows works from then on, where the numbers of its versions go up to the base,
-/// no later number is done or over, and the restart's low mark is no further than the next one.
-pub fn what_begins_works()
-    ensures { (parts : Parts) (rows : List Row) (before base : ℕ) (life : Life) (restart : Restart)
-        → let store = last_store life in
-        IsLife parts restart.short restart.tables (base + 1) rows life → IsTidied store
-        → Shows parts store.tables store.layouts store.done rows
-        → ((t row : ℕ) → IsUsedRow (store.tables t) row → All (λ slot. slot.xn ≤ base) (versions_of store t row))
-        → ((xn : ℕ) → base < xn → IsOpen store xn)
-        → restart.low ≤ base + 1 → base < STORED_NUMBERS_END
-        → Works parts (fresh restart.tables restart.short rows before base) life restart }
-{
-    a_tidied_store_holds_a_fresh_machine();
-    machines_are_kept();
-    histories_are_sound();
 }

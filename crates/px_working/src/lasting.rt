@@ -1,7 +1,5 @@
 ghost use Rattle.std.specs.Prelude.{◌≡◌, ◌≤◌, ℕ};
 ghost use Rattle.px_apply.specs.Contents.{Contents};
-ghost use Rattle.px_calls.specs.Steps.{state_after};
-ghost use Rattle.px_calls.specs.declared.call.Call.{Call};
 ghost use Rattle.px_change.specs.declared.change.Change.{Change};
 ghost use Rattle.px_history.specs.Steps.{Step};
 ghost use Rattle.px_life.specs.Life.{Life, end_of, grown};
@@ -17,7 +15,6 @@ ghost use Rattle.px_working.specs.Follows.{Follows, KeepsPublished};
 ghost use Rattle.px_working.specs.Lasts.{HasBetween, HasOthersOf, IsOneSegment, Lasts, LeavesFronts};
 
 use px_life::{a_life_grows, commits_go_on, done_goes_on};
-use px_logged::what_was_published_stays;
 use px_reached::what_is_reachable_stands;
 
 /// Whatever a crash leaves while a store lasts stands for what its machine published by such a number of commits.
@@ -26,14 +23,6 @@ pub fn a_crash_leaves_what_lasts()
         → Lasts parts least m life restart marks now → IsPlainImage now image → HasBetween parts least (commits m) m image }
 {
     what_is_reachable_stands();
-}
-
-/// What stands for the machine before a call stands for the machine after it too, as one that may have made more.
-pub fn what_stood_before_stands()
-    ensures { (parts : Parts) (least : ℕ) (m : Machine) (session : ℕ) (call : Call) (image : Contents) → HasBetween parts least (commits m) m image
-        → HasBetween parts least (commits (state_after m session call)) (state_after m session call) image }
-{
-    what_was_published_stays();
 }
 
 /// A log in one file, of which a crash leaves a front of the life's changes that has the durable ones, is kept.
