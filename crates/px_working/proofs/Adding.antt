@@ -1,9 +1,9 @@
 -- The step that each call adds: a write, a commit and a rollback.
-use Rattle.std.proofs.Common.{◌≡◌, ◌≢◌, ℕ, ◌+◌, ◌^◌, ◌<◌, ◌≤◌, false, List, [], ◌∷◌, length, Some, None, refl, sym, ap, subst, ◌∙◌, arith}
+use Rattle.std.proofs.Common.{◌≡◌, ◌≢◌, ℕ, ◌+◌, ◌^◌, ◌<◌, List, [], ◌∷◌, length, Some, refl, sym, ap, subst, ◌∙◌, arith}
 use Rattle.std.proofs.lemmas.Option.{none-some}
 use Rattle.px_calls.specs.declared.call.Call.{Call}
 use Rattle.px_calls.specs.declared.call.Call.TheVariants.{Commit, Rollback}
-use Rattle.px_calls.specs.Steps.{is_refusal, open_of, reply_of, state_after}
+use Rattle.px_calls.specs.Steps.{open_of, state_after}
 use Rattle.px_cell_laws.specs.Holding.{HoldsChains}
 use Rattle.px_cell_laws.specs.Writing.{IsWriteBy}
 use Rattle.px_cells.specs.declared.header.Header.{Header}
@@ -31,7 +31,7 @@ use Rattle.px_working.specs.Follows.{last_store}
 use Rattle.px_working.specs.Lasts.{Lasts}
 use Rattle.px_working.specs.Works.{Works}
 use Rattle.px_working.proofs.Calling.{Adds, stored_number}
-use Rattle.px_working.proofs.Growing.{whole}
+use Rattle.px_working.proofs.Grown.{whole}
 use Rattle.px_working.proofs.Tables.{written_table}
 
 -- ---- what is used of the laws below

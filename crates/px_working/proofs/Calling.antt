@@ -1,9 +1,8 @@
 -- Which step each call adds, and what the machine is after it.
-use Rattle.std.proofs.Common.{◌≡◌, ◌≢◌, ℕ, ◌+◌, ◌-◌, ◌^◌, ◌<◌, ◌≤◌, ◌==◌, Bool, true, false, cond, List, [], ◌∷◌, length, leb, Some, refl, sym, ap, subst, ◌∙◌, arith}
+use Rattle.std.proofs.Common.{◌≡◌, ℕ, ◌+◌, ◌-◌, ◌≤◌, ◌==◌, Bool, true, false, cond, List, [], ◌∷◌, length, leb, Some, sym, ap, subst, ◌∙◌, arith}
 use Rattle.std.proofs.lemmas.Bool.{and_from, false≢true, le-leb}
 use Rattle.px_calls.specs.declared.call.Call.{Call}
 use Rattle.px_calls.specs.declared.call.Call.TheVariants.{Begin, Get, Hold, Fetch, Find, Scan, Insert, Update, Delete, Commit, Rollback}
-use Rattle.px_calls.specs.Histories.{state_after_all}
 use Rattle.px_calls.specs.Steps.{entries_of, is_refusal, open_of, reply_of, state_after, state_when_done}
 use Rattle.px_cell_laws.specs.Holding.{HoldsChains}
 use Rattle.px_cell_laws.specs.Writing.{is_end}
@@ -19,8 +18,7 @@ use Rattle.px_history.specs.Writers.{IsAlone}
 use Rattle.px_history.specs.Written.{IsChangeOf, change_of}
 use Rattle.px_life.specs.Front.{IsFrom}
 use Rattle.px_life.specs.Life.{IsLife, Life, end_of, grown}
-use Rattle.px_logged.specs.Growing.{KeepsOpening}
-use Rattle.px_logged.proofs.Grown.{call_grows, commit_counts, committing, grown_commits, opening_stays, others_keep_committed, published_stays}
+use Rattle.px_logged.proofs.Grown.{call_grows, committing, grown_commits, opening_stays, others_keep_committed, published_stays}
 use Rattle.px_model.specs.Machine.{Machine, commits, published}
 use Rattle.px_model.specs.Rows.{in_order}
 use Rattle.px_model.specs.declared.limits.TheConstants.{LONGEST_SHORT, MOST_TABLES, SHORTEST_SHORT}
@@ -35,11 +33,11 @@ use Rattle.px_shown.specs.Parts.{Parts}
 use Rattle.px_shown.specs.Shown.{Shows}
 use Rattle.px_shown.specs.Tables.{AreSound}
 use Rattle.px_site.specs.State.{Moment}
-use Rattle.px_working.specs.Follows.{Follows, KeepsPublished, last_store}
+use Rattle.px_working.specs.Follows.{Follows, last_store}
 use Rattle.px_working.specs.Lasts.{Lasts}
-use Rattle.px_working.specs.Works.{AllowsWriters, Works}
-use Rattle.px_working.proofs.Growing.{last_more}
-use Rattle.px_working.proofs.Lasting.{can_restart}
+use Rattle.px_working.specs.Works.{Works}
+use Rattle.px_working.proofs.Grown.{last_more}
+use Rattle.px_working.proofs.Moments.{can_restart}
 use Rattle.px_working.proofs.Numbers.{HasNumbers, numbers_go_on}
 
 -- ---- what is used of the laws below

@@ -1,5 +1,5 @@
 -- Through each call the store lasts, and the machine works on.
-use Rattle.std.proofs.Common.{◌≡◌, ◌≢◌, ℕ, ◌+◌, ◌^◌, ◌<◌, ◌≤◌, true, false, List, [], ◌∷◌, None, Some, refl, sym, subst, ◌∙◌, arith}
+use Rattle.std.proofs.Common.{◌≡◌, ◌≢◌, ℕ, ◌+◌, ◌^◌, ◌<◌, true, false, [], ◌∷◌, None, Some, sym, subst}
 use Rattle.px_calls.specs.declared.call.Call.{Call}
 use Rattle.px_calls.specs.declared.call.Call.TheVariants.{Commit, Rollback}
 use Rattle.px_calls.specs.Steps.{is_refusal, open_of, reply_of, state_after}
@@ -29,7 +29,7 @@ use Rattle.px_working.specs.Lasts.{HasOthersOf, Lasts, LeavesFronts}
 use Rattle.px_working.specs.Works.{Works}
 use Rattle.px_working.proofs.Adding.{BeAlone, CallsKeep, CommitsFollow, CommitsHold, Follow, HistoriesHaveOneWriter, LeaveChains, OnWrites, RollbacksFollow, RollbacksHold, commit_adds, rollback_adds, write_adds}
 use Rattle.px_working.proofs.Calling.{CommittedShown, FramesHold, adds_follows, no_commit, refused_stays, works_after, works_on, wrote_none}
-use Rattle.px_working.proofs.Lasting.{another_lasts}
+use Rattle.px_working.proofs.Moments.{another_lasts}
 
 -- what is used of the law on steps
 abbrev pub StepsLast : Type 0

@@ -1,10 +1,10 @@
 pub mod Adding
-pub mod Beginning
 pub mod Calling
+pub mod Fresh
 pub mod Going
-pub mod Growing
-pub mod Lasting
+pub mod Grown
 pub mod Log
+pub mod Moments
 pub mod Numbers
 pub mod Stepping
 pub mod Tables

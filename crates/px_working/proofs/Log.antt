@@ -1,12 +1,11 @@
 -- A log in one file.
-use Rattle.std.proofs.Common.{◌≡◌, ℕ, zero, suc, ◌+◌, ◌-◌, ◌^◌, ◌<◌, ◌≤◌, ◌&&◌, Bool, true, false, cond, List, [], ◌++◌, drop, length, map, take, refl, sym, ap, subst, ◌∙◌, arith}
+use Rattle.std.proofs.Common.{◌≡◌, ℕ, zero, suc, ◌+◌, ◌-◌, ◌^◌, ◌≤◌, ◌&&◌, Bool, true, false, cond, List, [], ◌++◌, drop, length, map, take, refl, sym, ap, subst, ◌∙◌, arith}
 use Rattle.std.specs.Prelude.{if◌then◌else◌, nat_lt}
 use Rattle.std.proofs.lemmas.List.{append-nil}
 use Rattle.px_apply.specs.Contents.{Contents}
-use Rattle.px_change.specs.declared.change.Change.{Change}
 use Rattle.px_change.specs.Text.{change_text}
 use Rattle.px_filed.proofs.Filed.{image_of_rest}
-use Rattle.px_life.specs.Life.{Life, between, end_of}
+use Rattle.px_life.specs.Life.{Life, between}
 use Rattle.px_reached.specs.Reachable.{KeepsLog, Marks}
 use Rattle.px_reached.specs.Scanned.{last_from, last_scanned, scan, scan_from}
 use Rattle.px_restart.specs.declared.restart.Restart.{Restart}

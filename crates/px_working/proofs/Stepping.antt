@@ -1,7 +1,6 @@
 -- What lasts goes on with a step.
-use Rattle.std.proofs.Common.{◌≡◌, ◌⊎◌, ℕ, ◌+◌, ◌-◌, ◌<◌, ◌≤◌, max, true, All, List, [], refl, sym, ap, subst, ◌∙◌, arith, ⊎_elim}
+use Rattle.std.proofs.Common.{◌≡◌, ℕ, ◌+◌, ◌-◌, ◌<◌, ◌≤◌, max, true, All, List, [], refl, sym, ap, subst, ◌∙◌, arith, ⊎_elim}
 use Rattle.std.proofs.lemmas.Bool.{cases_lt}
-use Rattle.px_cells.specs.declared.cell.Cell.{Cell}
 use Rattle.px_chain.specs.Sound.{IsUsedRow}
 use Rattle.px_change.specs.Grammar.{may_hold}
 use Rattle.px_change.specs.declared.change.Change.{Change}
@@ -27,8 +26,8 @@ use Rattle.px_site.specs.State.{Moment}
 use Rattle.px_xlog.specs.Contents.{the_log}
 use Rattle.px_working.specs.Follows.{Follows}
 use Rattle.px_working.specs.Lasts.{HasOthersOf, Lasts, LeavesFronts}
-use Rattle.px_working.proofs.Growing.{end_more, last_more, same_changes, same_places, same_store}
-use Rattle.px_working.proofs.Lasting.{can_restart, same_cells, same_life, same_rows, same_segment, same_valid}
+use Rattle.px_working.proofs.Grown.{end_more, last_more, same_changes, same_places, same_store}
+use Rattle.px_working.proofs.Moments.{can_restart, same_cells, same_life, same_rows, same_segment, same_valid}
 use Rattle.px_working.proofs.Log.{log_kept}
 
 -- ---- what is used of the laws below
@@ -68,7 +67,7 @@ one_more last (Step.move t number log place) numbered = (omega arith, omega arit
 module _ (grow : LivesGrow) (done_goes_on : DoneGoesOn) (commits_go_on : CommitsGoOn)
     (parts : Parts) (least : ℕ) (m later : Machine) (life : Life) (restart : Restart) (marks : Marks) (step : Step) (change : Change) (before now : Moment)
     (lasts : Lasts parts least m life restart marks before) (follows : Follows parts m life restart step change later) (others : HasOthersOf before now) where
-  next : Life
+  abbrev pub next : Life
   next = grown life step change
 
   is : IsLife parts restart.short restart.tables (m.base + 1) m.opening life

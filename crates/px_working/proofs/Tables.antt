@@ -1,5 +1,5 @@
 -- A write that is answered is one of a table that the store has.
-use Rattle.std.proofs.Common.{◌≡◌, ℕ, ◌≤◌, Bool, true, false, not, cond, List, Option, Some, option_map, refl, subst}
+use Rattle.std.proofs.Common.{◌≡◌, ℕ, Bool, true, false, not, cond, Option, Some, option_map, refl, subst}
 use Rattle.std.specs.Prelude.{nat_le}
 use Rattle.std.proofs.lemmas.Bool.{and_parts, leb-true, not-false, true≢false}
 use Rattle.std.proofs.lemmas.Option.{none-some, same_Some}

@@ -1,4 +1,4 @@
-use Rattle.px_working.proofs.Beginning.{new_lasts, new_works}
+use Rattle.px_working.proofs.Fresh.{new_lasts, new_works}
 use Rattle.px_working.proofs.beginning.a_new_store_lasts.Goals as goal
 
 pub returns-clause-lasts : goal.returns-clause-lasts

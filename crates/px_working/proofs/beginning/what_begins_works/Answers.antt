@@ -1,4 +1,4 @@
-use Rattle.px_working.proofs.Beginning.{begins}
+use Rattle.px_working.proofs.Fresh.{begins}
 use Rattle.px_working.proofs.beginning.what_begins_works.Goals as goal
 
 pub returns : goal.returns

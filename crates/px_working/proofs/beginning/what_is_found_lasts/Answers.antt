@@ -1,4 +1,4 @@
-use Rattle.px_working.proofs.Beginning.{found_lasts}
+use Rattle.px_working.proofs.Fresh.{found_lasts}
 use Rattle.px_working.proofs.beginning.what_is_found_lasts.Goals as goal
 
 pub returns : goal.returns

@@ -1,4 +1,4 @@
-use Rattle.px_working.proofs.Growing.{end_more, last_more, same_changes, same_places, same_store}
+use Rattle.px_working.proofs.Grown.{end_more, last_more, same_changes, same_places, same_store}
 use Rattle.px_working.proofs.growing.a_life_has_a_frame_more.Goals as goal
 
 pub returns-clause-end : goal.returns-clause-end

@@ -1,4 +1,4 @@
-use Rattle.px_working.proofs.Lasting.{crash_leaves}
+use Rattle.px_working.proofs.Moments.{crash_leaves}
 use Rattle.px_working.proofs.lasting.a_crash_leaves_what_lasts.Goals as goal
 
 pub returns : goal.returns

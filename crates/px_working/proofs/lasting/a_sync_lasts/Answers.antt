@@ -1,4 +1,4 @@
-use Rattle.px_working.proofs.Lasting.{synced_all, synced_meanwhile}
+use Rattle.px_working.proofs.Moments.{synced_all, synced_meanwhile}
 use Rattle.px_working.proofs.lasting.a_sync_lasts.Goals as goal
 
 pub returns-clause-meanwhile : goal.returns-clause-meanwhile

@@ -1,30 +1,21 @@
 -- What lasts goes on with each step, each frame and each sync.
-use Rattle.std.proofs.Common.{◌≡◌, ◌⊎◌, ℕ, ◌+◌, ◌-◌, ◌<◌, ◌≤◌, max, false, true, All, List, [], ◌∷◌, ◌++◌, refl, sym, ap, subst, ◌∙◌, arith, inl, inr, ⊎_elim}
-use Rattle.std.proofs.lemmas.Bool.{cases_lt, ne_eqb}
+use Rattle.std.proofs.Common.{◌≡◌, ℕ, ◌+◌, ◌-◌, ◌≤◌, max, false, List, refl, sym, ap, subst, ◌∙◌, arith, inl, inr}
+use Rattle.std.proofs.lemmas.Bool.{ne_eqb}
 use Rattle.px_apply.specs.Contents.{Contents}
 use Rattle.px_apply.specs.Writes.{file_of}
 use Rattle.px_cells.specs.declared.cell.Cell.{Cell}
 use Rattle.px_cells.specs.declared.cell.CellKind.{CellKind}
 use Rattle.px_cells.specs.declared.cell.CellKind.TheVariants as kinds
-use Rattle.px_chain.specs.Sound.{IsUsedRow}
-use Rattle.px_change.specs.Grammar.{may_hold}
-use Rattle.px_change.specs.declared.change.Change.{Change}
 use Rattle.px_filed.proofs.Filed.{image_of_rest}
-use Rattle.px_filed.specs.Filed.{KeepCells, KeepsFiles, Rests}
-use Rattle.px_history.specs.Fitting.{IsWritten}
-use Rattle.px_history.specs.Steps.{IsStep, Step, after_step}
-use Rattle.px_history.specs.Store.{Store, versions_of}
-use Rattle.px_history.specs.Told.{IsNumberedOn, last_after}
-use Rattle.px_history.specs.Writers.{IsAlone}
-use Rattle.px_history.specs.Written.{IsChangeOf}
+use Rattle.px_filed.specs.Filed.{KeepCells, Rests}
 use Rattle.px_laid.specs.Places.{Places}
-use Rattle.px_life.specs.Front.{AreStored, IsFrom, KnowsDone, commits_at, commits_by, done_by}
+use Rattle.px_life.specs.Front.{commits_at}
 use Rattle.px_life.specs.Laid.{cells_by}
-use Rattle.px_life.specs.Life.{IsLife, Life, between, end_of, grown, places_at, store_at}
+use Rattle.px_life.specs.Life.{IsLife, Life, between, end_of, places_at, store_at}
 use Rattle.px_logged.specs.Growing.{KeepsOpening}
 use Rattle.px_model.specs.Machine.{Machine, commits, published}
 use Rattle.px_model.specs.declared.row.Row.{Row}
-use Rattle.px_reached.specs.Reachable.{IsReachable, KeepsPrefix, Marks, PublishesFronts}
+use Rattle.px_reached.specs.Reachable.{IsReachable, Marks, PublishesFronts}
 use Rattle.px_reached.specs.Stands.{StandsFor}
 use Rattle.px_recs.specs.Place.{table_file}
 use Rattle.px_restart.specs.Restart.{CanRestart, IsPicked}
@@ -38,9 +29,8 @@ use Rattle.px_site.specs.declared.name.FileName.{FileName}
 use Rattle.px_site.specs.declared.name.FileName.TheVariants.{Restart as RestartFile, Xlog}
 use Rattle.px_standing.specs.Images.{IsPlainImage}
 use Rattle.px_xlog.specs.Contents.{the_log}
-use Rattle.px_working.specs.Follows.{Follows, KeepsPublished, last_store}
+use Rattle.px_working.specs.Follows.{KeepsPublished}
 use Rattle.px_working.specs.Lasts.{HasBetween, HasOthersOf, IsOneSegment, IsValid, Lasts, LeavesFronts}
-use Rattle.px_working.proofs.Growing.{end_more, last_more, same_changes, same_places, same_store}
 use Rattle.px_working.proofs.Log.{log_kept}
 
 -- ---- the files

@@ -2,7 +2,7 @@
 use Rattle.std.proofs.Common.{◌≡◌, ℕ, zero, suc, ◌+◌, ◌-◌, ◌<◌, ◌≤◌, ◌==◌, ◌&&◌, Bool, true, false, cond, All, List, [], ◌∷◌, drop, length, take, refl, sym, ap, subst, arith}
 use Rattle.std.specs.List.{list_all}
 use Rattle.std.proofs.lemmas.Bool.{and_parts, eqb-true, le-ltb, leb-true}
-use Rattle.std.proofs.lemmas.List.{length-drop, length-take}
+use Rattle.std.proofs.lemmas.List.{length-take}
 use Rattle.px_cell_laws.specs.Holding.{HoldsChains}
 use Rattle.px_chain.specs.Sound.{IsUsedRow}
 use Rattle.px_chain_laws.specs.Kept.{IsKept}
@@ -34,8 +34,8 @@ use Rattle.px_standing.specs.Images.{IsPlainImage}
 use Rattle.px_working.specs.Follows.{last_store}
 use Rattle.px_working.specs.Lasts.{IsOneSegment, IsValid, Lasts}
 use Rattle.px_working.specs.Works.{Works}
-use Rattle.px_working.proofs.Growing.{whole}
-use Rattle.px_working.proofs.Lasting.{can_restart}
+use Rattle.px_working.proofs.Grown.{whole}
+use Rattle.px_working.proofs.Moments.{can_restart}
 
 -- ---- what is used of the laws below
 
