@@ -31,6 +31,7 @@ use Rattle.px_working.specs.Follows.{last_store}
 use Rattle.px_working.specs.Lasts.{Lasts}
 use Rattle.px_working.specs.Works.{Works}
 use Rattle.px_working.proofs.Calling.{Adds, stored_number}
+use Rattle.px_working.proofs.Few.{no_more_commits}
 use Rattle.px_working.proofs.Grown.{whole}
 use Rattle.px_working.proofs.Tables.{written_table}
 
@@ -116,7 +117,7 @@ commit_adds follow hold keep one_writer parts least m life restart marks before 
       may = follow parts m (last_store life) session xact works.holds works.kept alone at;
       alone = tt;
       written = tt;
-      fits = record { some = omega arith; due = omega (arith, lasts.few); small = small };
+      fits = record { some = omega arith; due = omega (arith, no_more_commits parts least m life restart marks before lasts); small = small };
       change_is = record { mark = refl; cells = refl; commit = refl };
       stored = stored_number parts m life restart session xact works at;
       low = tt;

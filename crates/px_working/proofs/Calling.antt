@@ -17,7 +17,7 @@ use Rattle.px_history.specs.Told.{IsNumberedOn, last_after}
 use Rattle.px_history.specs.Writers.{IsAlone}
 use Rattle.px_history.specs.Written.{IsChangeOf, change_of}
 use Rattle.px_life.specs.Front.{IsFrom}
-use Rattle.px_life.specs.Life.{IsLife, Life, end_of, grown}
+use Rattle.px_life.specs.Life.{Life, end_of, grown}
 use Rattle.px_logged.proofs.Grown.{call_grows, committing, grown_commits, opening_stays, others_keep_committed, published_stays}
 use Rattle.px_model.specs.Machine.{Machine, commits, published}
 use Rattle.px_model.specs.Rows.{in_order}
@@ -33,8 +33,9 @@ use Rattle.px_shown.specs.Parts.{Parts}
 use Rattle.px_shown.specs.Shown.{Shows}
 use Rattle.px_shown.specs.Tables.{AreSound}
 use Rattle.px_site.specs.State.{Moment}
-use Rattle.px_working.specs.Follows.{Follows, last_store}
-use Rattle.px_working.specs.Lasts.{Lasts}
+use Rattle.px_xlog.specs.Contents.{the_log}
+use Rattle.px_working.specs.Follows.{Follows, last_store, with_step}
+use Rattle.px_working.specs.Lasts.{HasOthersOf, Lasts, LeavesFronts}
 use Rattle.px_working.specs.Works.{Works}
 use Rattle.px_working.proofs.Grown.{last_more}
 use Rattle.px_working.proofs.Moments.{can_restart}
@@ -102,6 +103,21 @@ adds_follows shown hold parts least m life restart marks before session call ste
           (subst (λ (rows : List Row). in_order rows ≡ true) (sym opening.opening) lasts.is_life.base.shows.order);
     }
 
+abbrev pub StepsLast : Type 0
+StepsLast = (parts : Parts) (least : ℕ) (m later : Machine) (life : Life) (restart : Restart) (marks : Marks) (step : Step) (change : Change) (before now : Moment)
+    → Lasts parts least m life restart marks before → Follows parts m life restart step change later → HasOthersOf before now
+    → LeavesFronts marks.durable (grown life step change).changes (now.files the_log)
+    → Lasts parts least later (grown life step change) restart marks now
+
+-- so the store lasts while the call's frame is appended
+pub adds_lasts : StepsLast → CommittedShown → FramesHold → (parts : Parts) (least : ℕ) (m : Machine) (life : Life) (restart : Restart) (marks : Marks) (before now : Moment)
+    (session : ℕ) (call : Call) (step : Step) → Lasts parts least m life restart marks before → Works parts m life restart → Adds parts m life restart session call step
+    → HasOthersOf before now → LeavesFronts marks.durable (with_step restart.short life step).changes (now.files the_log)
+    → Lasts parts least (state_after m session call) (with_step restart.short life step) restart marks now
+adds_lasts last shown hold parts least m life restart marks before now session call step lasts works adds =
+    last parts least m (state_after m session call) life restart marks step (change_of restart.short (last_store life) step) before now lasts
+    (adds_follows shown hold parts least m life restart marks before session call step lasts works adds)
+
 -- ---- the machine after a call
 
 numbers_of : (parts : Parts) (m : Machine) (life : Life) (restart : Restart) → Works parts m life restart → HasNumbers restart.low m
@@ -122,13 +138,14 @@ works_after parts m life other restart session call works holds kept =
       numbers = numbers.stored;
     }
 
-pub works_on : (parts : Parts) (next : ℕ) (rows : List Row) (m : Machine) (life : Life) (restart : Restart) (session : ℕ) (call : Call) (step : Step) (change : Change)
-    → IsLife parts restart.short restart.tables next rows life → Works parts m life restart
+pub works_on : (parts : Parts) (least : ℕ) (m : Machine) (life : Life) (restart : Restart) (marks : Marks) (before : Moment) (session : ℕ) (call : Call) (step : Step)
+    → Lasts parts least m life restart marks before → Works parts m life restart
     → HoldsChains parts (state_after m session call) (after_step (last_store life) step) → IsKept (state_after m session call)
-    → Works parts (state_after m session call) (grown life step change) restart
-works_on parts next rows m life restart session call step change is works holds kept =
-    works_after parts m life (grown life step change) restart session call works
-    (subst (HoldsChains parts (state_after m session call)) (sym (last_more parts restart.short restart.tables next rows life step change is)) holds) kept
+    → Works parts (state_after m session call) (with_step restart.short life step) restart
+works_on parts least m life restart marks before session call step lasts works holds kept =
+    let change = change_of restart.short (last_store life) step in
+    works_after parts m life (with_step restart.short life step) restart session call works
+    (subst (HoldsChains parts (state_after m session call)) (sym (last_more parts restart.short restart.tables (m.base + 1) m.opening life step change lasts.is_life)) holds) kept
 
 -- ---- whose number it is
 

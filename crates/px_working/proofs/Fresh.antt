@@ -1,22 +1,16 @@
 -- A fresh machine lasts and works.
-use Rattle.std.proofs.Common.{◌≡◌, ℕ, zero, suc, ◌+◌, ◌-◌, ◌<◌, ◌≤◌, ◌==◌, ◌&&◌, Bool, true, false, cond, All, List, [], ◌∷◌, drop, length, take, refl, sym, ap, subst, arith}
-use Rattle.std.specs.List.{list_all}
-use Rattle.std.proofs.lemmas.Bool.{and_parts, eqb-true, le-ltb, leb-true}
-use Rattle.std.proofs.lemmas.List.{length-take}
+use Rattle.std.proofs.Common.{◌≡◌, ℕ, zero, suc, ◌+◌, ◌-◌, ◌<◌, ◌≤◌, ◌&&◌, Bool, true, All, List, [], drop, take, refl, sym, ap, subst, arith}
+use Rattle.std.proofs.lemmas.Bool.{le-ltb}
 use Rattle.px_cell_laws.specs.Holding.{HoldsChains}
 use Rattle.px_chain.specs.Sound.{IsUsedRow}
 use Rattle.px_chain_laws.specs.Kept.{IsKept}
-use Rattle.px_change.specs.Grammar.{has_commit, is_change, is_due, is_of_tables, is_stored, is_within, may_hold}
 use Rattle.px_change.specs.declared.change.Change.{Change}
-use Rattle.px_change.specs.declared.change.ChangeKind.{ChangeKind}
-use Rattle.px_change.specs.declared.change.ChangeKind.TheVariants as kind
 use Rattle.px_history.specs.Base.{IsBase}
 use Rattle.px_history.specs.Steps.{History, Step}
 use Rattle.px_history.specs.Store.{IsOpen, IsTidied, Store, versions_of}
-use Rattle.px_life.proofs.Fronts.{stand_drop, stand_take}
 use Rattle.px_life.specs.Example.{new_life}
 use Rattle.px_life.specs.Front.{commits_at, last_number}
-use Rattle.px_life.specs.Life.{IsLife, Life, MayStand, between, end_of, store_at}
+use Rattle.px_life.specs.Life.{IsLife, Life, between, end_of, store_at}
 use Rattle.px_logged.proofs.Recounted.{no_slot}
 use Rattle.px_model.specs.Machine.{commits, fresh, published}
 use Rattle.px_model.specs.declared.limits.TheConstants.{STORED_NUMBERS_END}
@@ -78,51 +72,6 @@ begins kept hold sound parts rows before base life restart is tidied shows numbe
 
 -- ---- what was found lasts
 
--- a commit's number goes with that of its frame
-commit_due : (tables number short : ℕ) (change : Change) → may_hold tables number short change ≡ true → change.commit ≤ number + 1
-unfolding may_hold is_change
-commit_due tables number short change held =
-    let both = and_parts (is_change short change) (is_within tables number change) held in
-    let within = and_parts (list_all (is_of_tables tables) change.cells) (is_due number change.kind change.commit) both.1 in
-    let formed = and_parts (is_stored change.xn) _ both.0 in
-    by_kind change.kind change.commit (and_parts (has_commit change.kind change.commit) _ formed.1).0 within.1
-  where
-    by_kind : (kind : ChangeKind) (commit : ℕ) → has_commit kind commit ≡ true → is_due number kind commit ≡ true → commit ≤ number + 1
-    by_kind kind.Commit commit has due = leb-true commit (number + 1) due
-    by_kind kind.Put commit has due = omega (arith, eqb-true commit 0 has)
-    by_kind kind.Rollback commit has due = omega (arith, eqb-true commit 0 has)
-    by_kind kind.Sweep commit has due = omega (arith, eqb-true commit 0 has)
-    by_kind kind.Move commit has due = omega (arith, eqb-true commit 0 has)
-    by_kind kind.Tidy commit has due = omega (arith, eqb-true commit 0 has)
-
-last_due : (tables number short last : ℕ) (changes : List Change) → MayStand tables number short changes → last ≤ number → last_number last changes ≤ number + length changes
-last_due tables number short last [] stand low = omega (arith, low)
-last_due tables number short last (change ∷ changes) stand low =
-    omega (
-      arith,
-      last_due tables (number + 1) short (cond (change.commit == 0) last change.commit) changes stand.1
-          (either (change.commit == 0) (commit_due tables number short change stand.0)),
-    )
-  where
-    either : (none : Bool) → change.commit ≤ number + 1 → cond none last change.commit ≤ number + 1
-    either true due = omega (arith, low)
-    either false due = due
-
--- there are no more commits than frames
-few_commits : (parts : Parts) (next : ℕ) (rows : List Row) (life : Life) (restart : Restart) (marks : Marks) (now : Moment)
-    → IsLife parts restart.short restart.tables next rows life → IsValid restart now → IsReachable IsPlainImage restart.short restart life marks now
-    → commits_at restart life (end_of life) ≤ end_of life
-few_commits parts next rows life restart marks now is valid reach =
-    let can = can_restart restart now valid in
-    let from : restart.first ≤ end_of life = omega (arith, can.marks.first_to, reach.redo_to, reach.applied, reach.end) in
-    let behind = drop (restart.first - life.first) life.changes in
-    let front = take (end_of life - restart.first) behind in
-    let stand : MayStand restart.tables (life.first + (restart.first - life.first)) restart.short front =
-    stand_take restart.tables (life.first + (restart.first - life.first)) restart.short (end_of life - restart.first) behind
-    (stand_drop restart.tables life.first restart.short (restart.first - life.first) life.changes (omega (arith, reach.first, from)) is.stand) in
-    let last = last_due restart.tables (life.first + (restart.first - life.first)) restart.short 0 front stand (omega arith) in
-    omega (arith, last, length-take (end_of life - restart.first) behind, reach.first, from, can.marks.commits_to, reach.durable, reach.end)
-
 fresh_published : (tables short : ℕ) (rows : List Row) (before base count : ℕ) → published (fresh tables short rows before base) count ≡ rows
 unfolding fresh published
 fresh_published tables short rows before base zero = refl
@@ -151,7 +100,6 @@ found_lasts parts rows base life restart marks now is shows one valid reach dura
       acknowledged = λ frame from to. omega (arith, ap (commits_at restart life) (only frame from to));
       made = λ frame from to. omega (arith, ap (commits_at restart life) (only frame from to));
       all_commits = omega arith;
-      few = omega (arith, few_commits parts (base + 1) rows life restart marks now is valid reach);
     }
 
 -- ---- a new store

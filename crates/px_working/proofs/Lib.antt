@@ -1,5 +1,6 @@
 pub mod Adding
 pub mod Calling
+pub mod Few
 pub mod Fresh
 pub mod Going
 pub mod Grown

@@ -143,7 +143,6 @@ another_lasts parts least m later life restart marks now lasts opening same stay
   acknowledged = lasts.acknowledged;
   made = λ frame from to. omega (arith, lasts.made frame from to, same);
   all_commits = lasts.all_commits ∙ sym same;
-  few = omega (arith, lasts.few, same);
 }
 
 -- ---- a sync
@@ -175,7 +174,6 @@ synced_meanwhile parts least durable m life restart marks before now lasts other
       acknowledged = λ frame from to. lasts.acknowledged frame (omega (arith, from, rose)) to;
       made = λ frame from to. lasts.made frame (omega (arith, from, rose)) to;
       all_commits = lasts.all_commits;
-      few = lasts.few;
     }
 
 pub synced_all : (parts : Parts) (least : ℕ) (m : Machine) (life : Life) (restart : Restart) (marks : Marks) (before now : Moment)
@@ -194,5 +192,4 @@ synced_all parts least m life restart marks before now lasts others leaves =
           omega (arith, ap (commits_at restart life) whole, lasts.all_commits);
       made = more.made;
       all_commits = more.all_commits;
-      few = more.few;
     }

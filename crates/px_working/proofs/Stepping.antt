@@ -56,13 +56,13 @@ Knows restart store changes =
     ((t row : ℕ) → IsUsedRow (store.tables t) row → All (λ slot. store.done slot.xn ≡ done_by restart changes slot.xn) (versions_of store t row))
     × AreStored store.tables store.layouts
 
--- a step commits one at most
-one_more : (last : ℕ) (step : Step) → IsNumberedOn last [] step → (last ≤ last_after last step) × (last_after last step ≤ last + 1)
-one_more last (Step.put t header slot) numbered = (omega arith, omega arith)
-one_more last (Step.commit xn number) numbered = (omega (arith, numbered), omega (arith, numbered))
-one_more last (Step.rollback xn) numbered = (omega arith, omega arith)
-one_more last (Step.unlink t row from count) numbered = (omega arith, omega arith)
-one_more last (Step.move t number log place) numbered = (omega arith, omega arith)
+-- no step takes a commit back
+no_fewer : (last : ℕ) (step : Step) → IsNumberedOn last [] step → last ≤ last_after last step
+no_fewer last (Step.put t header slot) numbered = omega arith
+no_fewer last (Step.commit xn number) numbered = omega (arith, numbered)
+no_fewer last (Step.rollback xn) numbered = omega arith
+no_fewer last (Step.unlink t row from count) numbered = omega arith
+no_fewer last (Step.move t number log place) numbered = omega arith
 
 module _ (grow : LivesGrow) (done_goes_on : DoneGoesOn) (commits_go_on : CommitsGoOn)
     (parts : Parts) (least : ℕ) (m later : Machine) (life : Life) (restart : Restart) (marks : Marks) (step : Step) (change : Change) (before now : Moment)
@@ -111,8 +111,8 @@ module _ (grow : LivesGrow) (done_goes_on : DoneGoesOn) (commits_go_on : Commits
       ∙ ap (λ (last : ℕ). last_after last step) lasts.all_commits
       ∙ sym follows.commits_are
 
-  rose : (commits m ≤ commits later) × (commits later ≤ commits m + 1)
-  rose = let both = one_more (commits m) step follows.number in (omega (arith, both.0, follows.commits_are), omega (arith, both.1, follows.commits_are))
+  rose : commits m ≤ commits later
+  rose = omega (arith, no_fewer (commits m) step follows.number, follows.commits_are)
 
   -- so what holds of each of those and of the last one holds of all
   each : (P : ℕ → Type 0) → ((frame : ℕ) → marks.durable ≤ frame → frame ≤ end_of life → P frame) → P (end_of life + 1)
@@ -186,10 +186,9 @@ module _ (grow : LivesGrow) (done_goes_on : DoneGoesOn) (commits_go_on : Commits
         publishes = each (λ frame. ShowsAt (store_at next frame) (commits_at restart next frame)) shown last_shown;
         acknowledged = each (λ frame. least ≤ commits_at restart next frame)
             (λ frame from to. omega (arith, commits_are frame from to, lasts.acknowledged frame from to))
-            (omega (arith, last_commits, rose.0, lasts.all_commits, lasts.acknowledged (end_of life) reach.end (omega arith)));
+            (omega (arith, last_commits, rose, lasts.all_commits, lasts.acknowledged (end_of life) reach.end (omega arith)));
         made = each (λ frame. commits_at restart next frame ≤ commits later)
-            (λ frame from to. omega (arith, commits_are frame from to, lasts.made frame from to, rose.0))
+            (λ frame from to. omega (arith, commits_are frame from to, lasts.made frame from to, rose))
             (omega (arith, last_commits));
         all_commits = ap (commits_at restart next) ends ∙ last_commits;
-        few = omega (arith, rose.1, lasts.few, ends);
       }

@@ -61,9 +61,7 @@ pub record Lasts (parts : Parts) (least : ℕ) (m : Machine) (life : Life) (rest
   pub publishes : PublishesFronts parts restart life marks m
   pub acknowledged : (frame : ℕ) → marks.durable ≤ frame → frame ≤ end_of life → least ≤ commits_at restart life frame
   pub made : (frame : ℕ) → marks.durable ≤ frame → frame ≤ end_of life → commits_at restart life frame ≤ commits m
-  -- the whole of the log has each commit, one in a frame at most
   pub all_commits : commits_at restart life (end_of life) ≡ commits m
-  pub few : commits m ≤ end_of life
 
 -- the files stand for what the machine published by a commit from `least` to `most`
 pub record HasBetween (parts : Parts) (least most : ℕ) (m : Machine) (image : Contents) : Type 0 where

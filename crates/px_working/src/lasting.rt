@@ -62,3 +62,9 @@ pub fn another_machine_lasts()
         → Lasts parts least m life restart marks now → KeepsOpening m later → commits later ≡ commits m → KeepsPublished m later
         → Lasts parts least later life restart marks now }
 {}
+
+/// While a store lasts its machine has made no more commits than the life has frames.
+pub fn each_commit_has_a_frame()
+    ensures { (parts : Parts) (least : ℕ) (m : Machine) (life : Life) (restart : Restart) (marks : Marks) (now : Moment)
+        → Lasts parts least m life restart marks now → commits m ≤ end_of life }
+{}

@@ -22,5 +22,5 @@ pub use calls::{a_commit_goes_on, a_rollback_goes_on, a_write_goes_on, other_cal
 pub use growing::a_life_has_a_frame_more;
 pub use lasting::{
     a_crash_leaves_what_lasts, a_step_lasts, a_sync_lasts, another_machine_lasts,
-    the_log_keeps_its_fronts,
+    each_commit_has_a_frame, the_log_keeps_its_fronts,
 };
