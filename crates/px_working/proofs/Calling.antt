@@ -55,6 +55,12 @@ FramesHold = (parts : Parts) (short tables frame : ℕ) (store : Store) (step : 
     → IsWritten tables step → FitsFrame frame store step
     → may_hold tables frame short change ≡ true
 
+abbrev pub StepsLast : Type 0
+StepsLast = (parts : Parts) (least : ℕ) (m later : Machine) (life : Life) (restart : Restart) (marks : Marks) (step : Step) (change : Change) (before now : Moment)
+    → Lasts parts least m life restart marks before → Follows parts m life restart step change later → HasOthersOf before now
+    → LeavesFronts marks.durable (grown life step change).changes (now.files the_log)
+    → Lasts parts least later (grown life step change) restart marks now
+
 -- ---- a step
 
 -- a call adds the step, in the frame at the life's end
@@ -102,12 +108,6 @@ adds_follows shown hold parts least m life restart marks before session call ste
       shows = shown parts later (after_step store step) adds.chains adds.kept
           (subst (λ (rows : List Row). in_order rows ≡ true) (sym opening.opening) lasts.is_life.base.shows.order);
     }
-
-abbrev pub StepsLast : Type 0
-StepsLast = (parts : Parts) (least : ℕ) (m later : Machine) (life : Life) (restart : Restart) (marks : Marks) (step : Step) (change : Change) (before now : Moment)
-    → Lasts parts least m life restart marks before → Follows parts m life restart step change later → HasOthersOf before now
-    → LeavesFronts marks.durable (grown life step change).changes (now.files the_log)
-    → Lasts parts least later (grown life step change) restart marks now
 
 -- so the store lasts while the call's frame is appended
 pub adds_lasts : StepsLast → CommittedShown → FramesHold → (parts : Parts) (least : ℕ) (m : Machine) (life : Life) (restart : Restart) (marks : Marks) (before now : Moment)

@@ -17,7 +17,8 @@ ghost use Rattle.px_working.specs.Lasts.{HasBetween, HasOthersOf, IsOneSegment, 
 use px_life::{a_life_grows, commits_go_on, done_goes_on};
 use px_reached::what_is_reachable_stands;
 
-/// Whatever a crash leaves while a store lasts stands for what its machine published by such a number of commits.
+/// Whatever a crash leaves while a store lasts stands for what its machine published by a number of commits, no fewer than were
+/// acknowledged and no more than it has made.
 pub fn a_crash_leaves_what_lasts()
     ensures { (parts : Parts) (least : ℕ) (m : Machine) (life : Life) (restart : Restart) (marks : Marks) (now : Moment) (image : Contents)
         → Lasts parts least m life restart marks now → IsPlainImage now image → HasBetween parts least (commits m) m image }
@@ -31,8 +32,8 @@ pub fn the_log_keeps_its_fronts()
         → LeavesFronts marks.durable life.changes (now.files the_log) → KeepsLog IsPlainImage restart life marks now }
 {}
 
-/// Where a step follows, the store lasts at each moment at which a crash may leave its frame or not, for the machine that the step leads to: what
-/// was acknowledged still is, and no more is promised yet.
+/// Where a step follows, the store lasts for the machine that the step leads to, at each moment at which a crash may leave its frame or
+/// not: what was acknowledged still is, and no more is promised yet.
 pub fn a_step_lasts()
     ensures { (parts : Parts) (least : ℕ) (m later : Machine) (life : Life) (restart : Restart) (marks : Marks) (step : Step) (change : Change) (before now : Moment)
         → Lasts parts least m life restart marks before → Follows parts m life restart step change later → HasOthersOf before now
