@@ -5,6 +5,8 @@ use Rattle.std.proofs.lemmas.List.{drop-append-le, length-drop, take-append-le, 
 use Rattle.px_change.specs.declared.change.Change.{Change}
 use Rattle.px_history.specs.Steps.{Step, after_step, after_steps}
 use Rattle.px_history.specs.Store.{Store}
+use Rattle.px_laid.specs.Places.{Places, laid_over}
+use Rattle.px_life.proofs.Between.{one_more_between}
 use Rattle.px_life.specs.Life.{IsLife, Life, between, end_of, grown, places_at, store_at}
 use Rattle.px_model.specs.declared.row.Row.{Row}
 use Rattle.px_opened.specs.Opened.{changes_over}
@@ -37,3 +39,11 @@ module _ (parts : Parts) (short tables next : ℕ) (rows : List Row) (life : Lif
 
   pub same_places : (frame : ℕ) → life.start ≤ frame → frame ≤ end_of life → places_at (grown life step change) frame ≡ places_at life frame
   same_places frame from to = ap (changes_over life.below) (same_changes life step change life.start frame (omega (arith, is.redo_from, is.start_from)) from to)
+
+  pub last_laid : places_at (grown life step change) (end_of (grown life step change)) ≡ laid_over (places_at life (end_of life)) change.cells
+  last_laid =
+      let from : life.first ≤ life.start = omega (arith, is.redo_from, is.start_from) in
+      let to : life.start ≤ end_of life = omega (arith, is.count) in
+      ap (λ (frame : ℕ). places_at (grown life step change) frame) (end_more life step change)
+      ∙ ap (changes_over life.below) (one_more_between life step change life.start from to)
+      ∙ fold-append (λ (places : Places) (c : Change). laid_over places c.cells) life.below (between life life.start (end_of life)) (change ∷ [])
