@@ -1,0 +1,11 @@
+pub mod Adding
+pub mod Calling
+pub mod Few
+pub mod Fresh
+pub mod Going
+pub mod Grown
+pub mod Log
+pub mod Moments
+pub mod Numbers
+pub mod Stepping
+pub mod Tables
