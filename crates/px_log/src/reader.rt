@@ -28,7 +28,11 @@ pub struct LogScan {
 
 /// Reads the log's frames from the first one on, while they check. Damaged exactly where one of them is read whose
 /// payload isn't a change that it may hold.
-pub fn read_log<W: Site>(alloc: Global, site: &mut W, restart: &Restart) -> Result<LogScan, LogOpenError>
+pub fn read_log<W: Site>(
+    alloc: Global,
+    site: &mut W,
+    restart: &Restart,
+) -> Result<LogScan, LogOpenError>
     ensures scan { W.tells → IfOk result (λ scan. ScansTo ((W.state site.old).content the_log) scan.changes scan.stop) }
     ensures held { IfOk result (λ scan. MayStand restart.now.tables 0 restart.now.short scan.changes) }
     ensures count { IfOk result (λ scan. scan.frames ≡ length scan.changes) }

@@ -14,7 +14,7 @@ returns-in_err-scan-clause-untouched g c t =
 
 pub returns-then-scan-restart-clause-cause : goal.returns-then-scan-restart-clause-cause
 returns-then-scan-restart-clause-cause g c t =
-    (c.log_file.ensures, inr (stops_short _ _ _ _ _ _ (c.in_ok-scan.ensures.scan t) c.in_ok-scan.ensures.held c.in_ok-scan.ensures.count c.if-scan-restart.true))
+    (c.log_file.ensures, inr (stops_short _ _ _ _ _ (c.in_ok-scan.ensures.scan t) c.in_ok-scan.ensures.held c.in_ok-scan.ensures.count c.if-scan-restart.true))
 
 pub returns-in_err-cut_log-clause-moments : goal.returns-in_err-cut_log-clause-moments
 returns-in_err-cut_log-clause-moments g c t grew =

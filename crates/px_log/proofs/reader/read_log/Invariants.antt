@@ -12,7 +12,7 @@ invariant-loop-changes g l =
     record {
       small : l.stop ≤ longest_frame * l.frames;
       bounded : l.frames ≤ 2 ^ 48;
-      held : MayStand l.restart.now.tables 0 l.restart.now.short l.changes;
+      held : MayStand l.restart.tables 0 l.restart.short l.changes;
       count : l.frames ≡ length l.changes;
       reading : g.W.Site.tells → IsReading ((state l.fn.site).content the_log) l.changes l.stop l.frames;
       sees : g.W.Site.tells → Sees ((state l.fn.site).content the_log) l.window;

@@ -1,4 +1,5 @@
-use Rattle.std.proofs.Common.{◌≡◌, ℕ, ◌+◌, ◌*◌, ◌^◌, ◌<◌, ◌≤◌, [], ◌∷◌, ◌++◌, length, sym, ap, subst, ◌∙◌, arith}
+use Rattle.std.proofs.Common.{◌≡◌, ℕ, ◌+◌, ◌*◌, ◌^◌, ◌<◌, ◌≤◌, true, [], ◌∷◌, ◌++◌, length, sym, ap, subst, ◌∙◌, arith}
+use Rattle.px_change.specs.Grammar.{is_change}
 use Rattle.px_log.specs.Window.{longest_frame}
 use Rattle.px_log.specs.Log.{Log, IsLogOf, with_frame}
 use Rattle.px_log.proofs.FramesOfChanges.{may_be_written}
@@ -7,7 +8,8 @@ use Rattle.px_log.proofs.OtherFiles.{change_leaves_others}
 use Rattle.px_log.proofs.xlog.Xlog.append.Goals as goal
 
 pub fill-requires : goal.fill-requires
-fill-requires g c = may_be_written _ _ _ _ c.requires
+fill-requires g c =
+    subst (λ (short : ℕ). is_change short c.args.change.now ≡ true) (sym (ap (λ (l : Log). l.short) c.self.view_is)) (may_be_written _ _ _ _ c.requires)
 
 pub write_at-requires : goal.write_at-requires
 write_at-requires g c =
