@@ -46,12 +46,7 @@ fn marks_at(moment: u64) -> (usize, usize) {
 }
 
 /// How many changes are read after a crash. The log has no more than their bytes then.
-fn read_after(
-    rt: &impl Abort,
-    alloc: Global,
-    moment: u64,
-    keep: Keep,
-) -> Result<usize, Fail> {
+fn read_after(rt: &impl Abort, alloc: Global, moment: u64, keep: Keep) -> Result<usize, Fail> {
     let site = played(rt, alloc)?;
     assert!(rt; moment <= site.moments());
     let mut left = site.crash(Pick { moment, keep })?;

@@ -15,7 +15,8 @@ const COMMIT: &[u8; 18] = b"\x02\0\0\0\0\0\0\0\x01\0\0\0\0\0\0\0\x01\0";
 const THIRD: &[u8; 18] = b"\x02\0\0\0\0\0\0\0\x02\0\0\0\0\0\0\0\x03\0";
 
 /// A payload of the early format: a row of transaction 1 in table 1, with the key 1, the tag 5 and a body of one byte.
-const ROW: &[u8; 28] = b"\x01\0\0\0\0\0\0\0\x01\0\0\0\0\0\0\0\0\x01\x01\x01\0\0\0\x05\0\x01\x01\xaa";
+const ROW: &[u8; 28] =
+    b"\x01\0\0\0\0\0\0\0\x01\0\0\0\0\0\0\0\0\x01\x01\x01\0\0\0\x05\0\x01\x01\xaa";
 
 /// The bytes of a Put in that table.
 fn put_bytes(rt: &impl Abort, alloc: Global, table: u8) -> Result<Vec<u8>, Fail> {
@@ -56,20 +57,14 @@ fn a_frame_that_the_store_cannot_have_is_damage(rt: HostRuntime) -> Result<(), F
     assert_eq!(rt; opened(&rt, alloc, ROW, &RESTART)?, damaged_at(34));
     assert_eq!(rt; opened(&rt, alloc, THIRD, &RESTART)?, damaged_at(34));
     let other_table = put_bytes(&rt, alloc, 2)?;
-    assert_eq!(rt;
-        opened(&rt, alloc, &other_table, &RESTART)?,
-        damaged_at(34)
-    );
+    assert_eq!(rt; opened(&rt, alloc, &other_table, &RESTART)?, damaged_at(34));
     let other_short = Restart {
         short: 65,
         ..RESTART
     };
     let put = put_bytes(&rt, alloc, 1)?;
     assert_eq!(rt; opened(&rt, alloc, &put, &RESTART)?, None);
-    assert_eq!(rt;
-        opened(&rt, alloc, &put, &other_short)?,
-        damaged_at(34)
-    );
+    assert_eq!(rt; opened(&rt, alloc, &put, &other_short)?, damaged_at(34));
     Ok(())
 }
 

@@ -65,14 +65,17 @@ pub fn put_in(alloc: Global, table: u8) -> Result<Change, AllocError> {
 }
 
 /// Appends a change that the log may have next.
+#[tactic(auto, unfolding(px_change::specs::Grammar::may_hold))]
 pub fn append(
     rt: &impl Abort,
     log: &mut Xlog,
     site: &mut MemSite,
     change: &Change,
 ) -> Result<u64, LogError>
-    requires { (log.old.tables ≡ 1) × (log.old.short ≡ 64) }
-    ensures { (log.new.tables ≡ 1) × (log.new.short ≡ 64) }
+    requires tables { log.old.tables ≡ 1 }
+    requires short { log.old.short ≡ 64 }
+    ensures tables { log.new.tables ≡ 1 }
+    ensures short { log.new.short ≡ 64 }
 {
     let number = log.frames();
     assert!(rt; number < 100);
