@@ -1,0 +1,12 @@
+pub mod Appending
+pub mod Appends
+pub mod AtRest
+pub mod CutMoments
+pub mod Cuts
+pub mod FramesOfChanges
+pub mod Growing
+pub mod Held
+pub mod LogReading
+pub mod OtherFiles
+pub mod Refusals
+pub mod Windows

@@ -1,0 +1,14 @@
+use Rattle.px_log.proofs.CutMoments.{cut_moments, sync_cut_moments, cut_left}
+use Rattle.px_log.proofs.open.cut_log.Goals as goal
+
+pub returns-in_err-cut-clause-moments : goal.returns-in_err-cut-clause-moments
+returns-in_err-cut-clause-moments g c t = cut_moments c.log_file-file.ensures (c.cut.ensures.moves t)
+
+pub returns-in_err-sync-clause-moments : goal.returns-in_err-sync-clause-moments
+returns-in_err-sync-clause-moments g c t = sync_cut_moments c.log_file-file.ensures (c.in_ok-cut.ensures.moves t) (c.sync.ensures.moves t)
+
+pub returns-clause-moments : goal.returns-clause-moments
+returns-clause-moments g c t = sync_cut_moments c.log_file-file.ensures (c.in_ok-cut.ensures.moves t) (c.sync.ensures.moves t)
+
+pub returns-clause-left : goal.returns-clause-left
+returns-clause-left g c t = cut_left c.log_file-file.ensures (c.in_ok-cut.ensures.moves t) (c.in_ok-sync.ensures.moves t)

@@ -1,0 +1,95 @@
+ghost use Rattle.std.specs.Prelude.{◌≡◌, ⊤, ◌*◌, ◌^◌, ◌≤◌, true, length, take, IfOk, IfErr, OnOk};
+ghost use Rattle.px_site.specs.Cause.{NoneFell};
+ghost use Rattle.px_site.specs.Disk.{at_rest};
+ghost use Rattle.px_site.specs.State.{EachMoment, OnFile, Stands};
+ghost use Rattle.px_log.specs.Errors.{CountsLogFault, HasOpenCause, IsFileFault, IsOfSite, LeavesSite};
+ghost use Rattle.px_log.specs.Log.{IsCutting, IsLogOf, OnlyGrew, ReadsAsBefore};
+ghost use Rattle.px_log.specs.MayStand.{MayStand};
+ghost use Rattle.px_log.specs.Contents.{Scans, log_text};
+ghost use Rattle.px_xlog.specs.Contents.{the_log};
+ghost use Rattle.px_log.specs.Scanning.{ScansTo};
+ghost use Rattle.px_log.specs.Window.{longest_frame};
+
+use crate::place::log_file;
+use crate::reader::{LogScan, read_log};
+use crate::{ChangeList, LogOpenError, Xlog};
+use px_restart::Restart;
+use px_site::Site;
+use std::alloc::Global;
+
+/// Reads the log from its first frame on, cuts what is torn behind its last frame, and makes the cut durable. Damaged
+/// where the reading stops below the restart's `durable`, or where the payload of a frame is no change that it may hold;
+/// OutOfMemory where the call or the site wants memory. Damaged leaves the site as it was, and so does want of the
+/// call's own memory; another error may come behind the cut.
+pub fn open_log<W: Site>(
+    alloc: Global,
+    site: &mut W,
+    restart: &Restart,
+) -> Result<(Xlog, ChangeList), LogOpenError>
+    ensures read { W.tells → IfOk result (λ opened. Scans restart.now ((W.state site.old).content the_log) opened.1) }
+    ensures held { IfOk result (λ opened. MayStand restart.now.tables 0 restart.now.short opened.1) }
+    ensures count { IfOk result (λ opened. opened.0.frames ≡ length opened.1) }
+    ensures below { IfOk result (λ opened. opened.0.frames ≤ 2 ^ 48) }
+    ensures marks { IfOk result (λ opened. (opened.0.tables ≡ restart.now.tables) × (opened.0.short ≡ restart.now.short) × (opened.0.durable ≡ opened.0.frames)) }
+    ensures logged { W.tells → IfOk result (λ opened. IsLogOf opened.0 opened.1 (W.state site.new)) }
+    ensures left { W.tells → IfOk result (λ opened.
+        Stands the_log (W.state site.old) (at_rest (log_text opened.1)) (log_text opened.1) (W.state site.new)) }
+    ensures untouched { W.tells → IfErr result (λ error. LeavesSite (W.state site.old) (W.state site.new) (W.counts site.old) (W.counts site.new) error) }
+    ensures moments { W.tells → OnlyGrew ((W.state site.old).now.files the_log) ((W.state site.old).content the_log)
+        → EachMoment (OnFile the_log (W.state site.old).now (ReadsAsBefore ((W.state site.old).now.files the_log))) (W.state site.old) (W.state site.new) }
+    ensures log_alone { W.tells → EachMoment (OnFile the_log (W.state site.old).now (λ file. ⊤)) (W.state site.old) (W.state site.new) }
+    ensures none_fell { NoneFell (W.counts site.old) (W.counts site.new) }
+    ensures fault { IfErr result (CountsLogFault (W.counts site.old) (W.counts site.new)) }
+    ensures own { IfErr result IsFileFault }
+    ensures cause { W.tells → IfErr result (HasOpenCause restart.now ((W.state site.old).content the_log) (W.counts site.old) (W.counts site.new)) }
+{
+    let scan = recover(alloc, site, restart)?;
+    let log = Xlog::recovered(alloc, restart, scan.frames, scan.stop);
+    Ok((log, scan.changes))
+}
+
+fn recover<W: Site>(alloc: Global, site: &mut W, restart: &Restart) -> Result<LogScan, LogOpenError>
+    ensures scan { W.tells → IfOk result (λ scan. ScansTo ((W.state site.old).content the_log) scan.changes scan.stop) }
+    ensures held { IfOk result (λ scan. MayStand restart.now.tables 0 restart.now.short scan.changes) }
+    ensures count { IfOk result (λ scan. scan.frames ≡ length scan.changes) }
+    ensures reached { IfOk result (λ scan. restart.now.durable ≤ scan.frames) }
+    ensures small { IfOk result (λ scan. (scan.stop ≤ longest_frame * scan.frames) × (scan.frames ≤ 2 ^ 48)) }
+    ensures left { W.tells → IfOk result (λ scan.
+        Stands the_log (W.state site.old) (at_rest (log_text scan.changes)) (log_text scan.changes) (W.state site.new)) }
+    ensures untouched { W.tells → IfErr result (λ error. LeavesSite (W.state site.old) (W.state site.new) (W.counts site.old) (W.counts site.new) error) }
+    ensures moments { W.tells → OnlyGrew ((W.state site.old).now.files the_log) ((W.state site.old).content the_log)
+        → EachMoment (OnFile the_log (W.state site.old).now (ReadsAsBefore ((W.state site.old).now.files the_log))) (W.state site.old) (W.state site.new) }
+    ensures log_alone { W.tells → EachMoment (OnFile the_log (W.state site.old).now (λ file. ⊤)) (W.state site.old) (W.state site.new) }
+    ensures none_fell { NoneFell (W.counts site.old) (W.counts site.new) }
+    ensures fault { IfErr result (CountsLogFault (W.counts site.old) (W.counts site.new)) }
+    ensures own { IfErr result IsFileFault }
+    ensures cause { W.tells → IfErr result (HasOpenCause restart.now ((W.state site.old).content the_log) (W.counts site.old) (W.counts site.new)) }
+{
+    let scan = read_log(alloc, site, restart)?;
+    if scan.frames < restart.durable {
+        return Err(LogOpenError::Damaged {
+            file: log_file(),
+            place: scan.stop,
+        });
+    }
+    cut_log(site, scan.stop)?;
+    Ok(scan)
+}
+
+// What stands behind the scanned frames is cut, and the cut is synced before anything is written there. Else a whole
+// frame behind a torn one might come back once a new frame stands in the torn one's place.
+fn cut_log<W: Site>(site: &mut W, stop: u64) -> Result<(), LogOpenError>
+    ensures left { W.tells → OnOk result (Stands the_log (W.state site.old)
+        (at_rest (take stop ((W.state site.old).content the_log))) (take stop ((W.state site.old).content the_log)) (W.state site.new)) }
+    ensures moments { W.tells → EachMoment (OnFile the_log (W.state site.old).now
+        (IsCutting stop ((W.state site.old).now.files the_log) ((W.state site.old).content the_log))) (W.state site.old) (W.state site.new) }
+    ensures untouched { W.tells → IfErr result (λ error. LeavesSite (W.state site.old) (W.state site.new) (W.counts site.old) (W.counts site.new) error) }
+    ensures none_fell { NoneFell (W.counts site.old) (W.counts site.new) }
+    ensures cause { IfErr result (IsOfSite (W.counts site.old) (W.counts site.new)) }
+    ensures own { IfErr result IsFileFault }
+{
+    let file = log_file();
+    site.cut(file, stop)?;
+    site.sync(file)?;
+    Ok(())
+}

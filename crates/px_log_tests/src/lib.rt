@@ -1,0 +1,9 @@
+//! Tests of the log over a site in memory: what is appended and read again, what is damaged, and what a crash leaves.
+#![tactic(auto)]
+
+#[cfg(test)]
+mod crashes;
+#[cfg(test)]
+mod damage;
+#[cfg(test)]
+mod logs;
