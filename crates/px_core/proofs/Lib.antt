@@ -1,3 +1,4 @@
 pub mod Rows
 pub mod Serving
+pub mod Working
 pub mod Writing

@@ -1,7 +1,10 @@
 -- What a call answers, from what its parts did.
-use Rattle.std.proofs.Common.{◌≡◌, ◌≢◌, ◌⊎◌, ℕ, ◌+◌, ◌^◌, ◌<◌, ◌≤◌, true, List, [], ◌∷◌, ◌++◌, Some, Result, Ok, Err, IfErr, refl, sym, ap, subst, ◌∙◌, inl, inr, arith}
+use Rattle.std.proofs.Common.{◌≡◌, ◌≢◌, ◌⊎◌, ℕ, ◌+◌, ◌^◌, ◌<◌, ◌≤◌, ltb, Bool, true, false, cond, List, [], ◌∷◌, ◌++◌, Some, None, Result, Ok, Err, IfErr, refl, sym, ap, subst, ◌∙◌, inl, inr, arith}
 use Rattle.std.specs.Result.{IsErrAnd}
+use Rattle.std.proofs.lemmas.Bool.{ltb-false}
+use Rattle.std.proofs.lemmas.Option.{same_Some}
 use Rattle.px_site.specs.Cause.{Counts, Rose}
+use Rattle.px_site.specs.declared.error.Fault.TheVariants.{Write}
 use Rattle.px_site.specs.State.{State, EachMoment, OnFile}
 use Rattle.px_model.specs.Machine.{Machine, commits}
 use Rattle.px_calls.specs.declared.call.Call.{Call}
@@ -12,7 +15,7 @@ use Rattle.px_machine_laws.specs.Writers.{writer_of}
 use Rattle.px_told.specs.declared.change.Change.{Change}
 use Rattle.px_told.specs.declared.change.Change.TheVariants.{Commit as CommitChange}
 use Rattle.px_told.specs.Changes.{is_end}
-use Rattle.px_xlog.specs.Log.{Log, HasFirst, IsLogOf, full_at, with_frame}
+use Rattle.px_xlog.specs.Log.{Log, HasFirst, IsLogOf, full_at, most_frames, with_frame}
 use Rattle.px_xlog.specs.Payload.{may_hold}
 use Rattle.px_xlog.specs.Contents.{the_log}
 use Rattle.px_logged.specs.Fitting.{Fits}
@@ -20,9 +23,9 @@ use Rattle.px_machine_laws.specs.Writers.{tag_of}
 use Rattle.px_logged.specs.Logged.{logged}
 use Rattle.px_standing.specs.Stored.{Stored, ReadsImages}
 use Rattle.px_standing.proofs.Calls.{stored_still, appending_stands, stored_appended, both_moments, commit_stands, stored_committed}
-use Rattle.px_core.specs.Appending.{Appends, AppendFails, Flushes, HasAppendCause, LeavesFronts}
-use Rattle.px_core.specs.Core.{Kept, AsBefore, Breaks, Leaves, HasCallCause, UnlessEnd}
-use Rattle.px_core.specs.Serving.{Answers, Refuses, StandsWithin}
+use Rattle.px_core.specs.Appending.{Appends, AppendFails, AppendLeaves, Flushes, HasAppendCause, LeavesFronts}
+use Rattle.px_core.specs.Core.{Kept, HasCallCause, MayMeet, UnlessEnd}
+use Rattle.px_core.specs.Serving.{GivesUp, KeepsWithin, LeavesParts, Serves, Unchanged}
 use Rattle.px_core.proofs.Writing.{added_may_stand, commit_adds_one, fits_one}
 use Rattle.px_core.specs.declared.error.CoreError.{CoreError}
 use Rattle.px_core.specs.declared.error.CoreError.TheVariants.{OutOfMemory, Fault as FaultOf, LogFull, Broken}
@@ -34,9 +37,9 @@ if_err {T} {E} (Err error) P Q is finds = finds error is
 
 -- ---- nothing is added
 
-pub answers_silent : {W : Type 0} (tells : Type 0) (state : W → State) (session : ℕ) (call : Call) (old new : Kept W) (reply : Reply) → logged old.machine session call ≡ [] → reply ≡ reply_of old.machine session call
-    → new ≡ record old { machine = state_after old.machine session call } → Answers tells state session call old new reply
-answers_silent {W} tells state session call old new reply none is same = record {
+pub serves_silent : {W : Type 0} (tells : Type 0) (state : W → State) (session : ℕ) (call : Call) (old new : Kept W) (reply : Reply) → logged old.machine session call ≡ [] → reply ≡ reply_of old.machine session call
+    → new ≡ record old { machine = state_after old.machine session call } → Serves tells state session call old new reply
+serves_silent {W} tells state session call old new reply none is same = record {
   reply_is = is;
   machine = ap (λ (k : Kept W). k.machine) same;
   error = ap (λ (k : Kept W). k.error) same;
@@ -62,15 +65,15 @@ from_old {W} tells state session call change old mid new one t changes is =
     (subst (λ (l : Log). EachMoment (OnFile the_log (state mid.site).now (HasFirst l.durable (changes ++ change ∷ []))) (state mid.site) (state new.site)) one.log
     (one.moments t changes (subst (λ (l : Log). IsLogOf l changes (state mid.site)) (sym one.log) (subst (λ (s : W). IsLogOf old.log changes (state s)) (sym one.site) is))))
 
-pub stands_adding : {W : Type 0} (tells : Type 0) (state : W → State) (session : ℕ) (call : Call) (change : Change) (old mid new : Kept W) → call ≢ Commit → Adds tells state session call change old mid new → tells
-    → StandsWithin state session call old new
-stands_adding {W} tells state session call change old mid new other one t restart changes stored =
+pub keeps_adding : {W : Type 0} (tells : Type 0) (state : W → State) (session : ℕ) (call : Call) (change : Change) (old mid new : Kept W) → call ≢ Commit → Adds tells state session call change old mid new → tells
+    → KeepsWithin state session call old new
+keeps_adding {W} tells state session call change old mid new other one t restart changes stored =
     appending_stands restart changes old.log old.machine session call change other one.adds one.may stored (from_old tells state session call change old mid new one t changes stored.log)
 
-pub answers_adding : {W : Type 0} (tells : Type 0) (state : W → State) (session : ℕ) (call : Call) (change : Change) (old mid new : Kept W) (reply : Reply) → call ≢ Commit → Adds tells state session call change old mid new
+pub serves_adding : {W : Type 0} (tells : Type 0) (state : W → State) (session : ℕ) (call : Call) (change : Change) (old mid new : Kept W) (reply : Reply) → call ≢ Commit → Adds tells state session call change old mid new
     → Appends tells state change mid new → mid.error ≡ old.error → (next : Machine) → next ≡ state_after old.machine session call → new.log.frames ≤ 2 ^ 48
-    → (tells → ReadsImages (state new.site)) → reply ≡ reply_of old.machine session call → Answers tells state session call old (record new { machine = next }) reply
-answers_adding {W} tells state session call change old mid new reply other one appends error next machine below reads is = record {
+    → (tells → ReadsImages (state new.site)) → reply ≡ reply_of old.machine session call → Serves tells state session call old (record new { machine = next }) reply
+serves_adding {W} tells state session call change old mid new reply other one appends error next machine below reads is = record {
   reply_is = is;
   machine = machine;
   error = appends.error ∙ error;
@@ -85,14 +88,25 @@ answers_adding {W} tells state session call change old mid new reply other one a
 
 -- ---- a frame couldn't be added
 
-rose_from : (a b c : ℕ) → a ≤ b → Rose b c → Rose a c
-rose_from a b c le rose = omega (arith, le, rose)
+is_full : (log : Log) (n : ℕ) → full_at log ≡ Some n → (n ≡ log.frames) × (most_frames ≤ n)
+is_full log n full = by_room (ltb log.frames most_frames) refl
+  where
+    by_room : (room : Bool) → ltb log.frames most_frames ≡ room → (n ≡ log.frames) × (most_frames ≤ n)
+    by_room true some = let none : full_at log ≡ None = ap (λ (b : Bool). cond b None (Some log.frames)) some in absurd cc
+    by_room false none =
+        let at : full_at log ≡ Some log.frames = ap (λ (b : Bool). cond b None (Some log.frames)) none in
+        let same : log.frames ≡ n = same_Some log.frames n (sym at ∙ full) in
+        (sym same, omega (arith, same, ltb-false log.frames most_frames none))
 
 -- an append's error, where all else is as it was
-pub refuses_adding : {W : Type 0} (tells : Type 0) (state : W → State) (counts : W → Counts) (session : ℕ) (call : Call) (change : Change) (old new : Kept W) (error : CoreError) → logged old.machine session call ≡ change ∷ []
-    → (UnlessEnd call (is_end change ≡ true)) ⊎ ((P : Type 0) → UnlessEnd call P)
-    → AppendFails tells state counts change old new error → Refuses tells state counts session call old new error
-refuses_adding {W} tells state counts session call change old new error adds ends fails = record { leaves = fails.leaves; cause = by_error error fails.cause }
+pub gives_up_adding : {W : Type 0} (tells : Type 0) (state : W → State) (counts : W → Counts) (session : ℕ) (call : Call) (change : Change) (old new : Kept W) (error : CoreError) → logged old.machine session call ≡ change ∷ []
+    → (UnlessEnd call (is_end change ≡ true)) ⊎ ((P : Type 0) → UnlessEnd call P) → MayMeet call Write
+    → AppendFails tells state counts change old new error → GivesUp tells state counts session call old new error
+gives_up_adding {W} tells state counts session call change old new error adds ends meets fails = record {
+  leaves = left error fails.leaves;
+  cause = by_error error fails.cause;
+  adds = λ n full none. some (sym none ∙ adds);
+}
   where
     some : {A : Type 0} {x : A} → [] ≡ x ∷ [] → ⊥
     some e = absurd cc
@@ -108,16 +122,22 @@ refuses_adding {W} tells state counts session call change old new error adds end
         end_rose Rollback is rose = rose is
         end_rose _ is rose = tt
 
-    by_error : (error : CoreError) → HasAppendCause counts change old new error → HasCallCause counts session call old new error
+    left : (error : CoreError) → AppendLeaves tells state old new error → LeavesParts tells state counts call old new error
+    left OutOfMemory same = inl same
+    left (FaultOf fault) broken = broken
+    left (LogFull n) same = same
+    left (Broken kept) same = same
+
+    by_error : (error : CoreError) → HasAppendCause counts change old new error → HasCallCause counts call old new error
     by_error OutOfMemory cause = shorts cause
-    by_error (FaultOf fault) cause = cause
-    by_error (LogFull n) cause = (cause, λ none. some (sym none ∙ adds))
+    by_error (FaultOf fault) cause = (subst (MayMeet call) (sym cause.0) meets, cause.1)
+    by_error (LogFull n) cause = is_full old.log n cause
     by_error (Broken kept) cause = absurd cause
 
 -- the same where the machine had moved on and was taken back
-pub refuses_back : {W : Type 0} (tells : Type 0) (state : W → State) (counts : W → Counts) (change : Change) (old mid new : Kept W) (error : CoreError) → mid ≡ record old { machine = mid.machine }
+pub fails_back : {W : Type 0} (tells : Type 0) (state : W → State) (counts : W → Counts) (change : Change) (old mid new : Kept W) (error : CoreError) → mid ≡ record old { machine = mid.machine }
     → AppendFails tells state counts change mid new error → AppendFails tells state counts change old (record new { machine = old.machine }) error
-refuses_back {W} tells state counts change old mid new error same fails = record { leaves = left error fails.leaves; cause = by_error error fails.cause }
+fails_back {W} tells state counts change old mid new error same fails = record { leaves = left error fails.leaves; cause = by_error error fails.cause }
   where
     site : mid.site ≡ old.site
     site = ap (λ (k : Kept W). k.site) same
@@ -128,18 +148,14 @@ refuses_back {W} tells state counts change old mid new error same fails = record
     kept : mid.error ≡ old.error
     kept = ap (λ (k : Kept W). k.error) same
 
-    as_before : AsBefore tells state mid new → AsBefore tells state old (record new { machine = old.machine })
-    as_before before = record { machine = refl; log = before.log ∙ log; error = before.error ∙ kept; site = λ t. before.site t ∙ ap state site }
+    unchanged : Unchanged tells state mid new → Unchanged tells state old (record new { machine = old.machine })
+    unchanged before = record { machine = refl; log = before.log ∙ log; error = before.error ∙ kept; site = λ t. before.site t ∙ ap state site }
 
-    breaks : (e : _) → Breaks e mid new → Breaks e old (record new { machine = old.machine })
-    breaks e broken = record { kept = broken.kept; machine = refl }
-
-    left : (error : CoreError) → Leaves tells state counts mid new error → Leaves tells state counts old (record new { machine = old.machine }) error
-    left OutOfMemory (inl before) = inl (as_before before)
-    left OutOfMemory (inr broken) = inr (breaks _ broken.0, subst (λ (w : W). Rose (counts w).shorts (counts new.site).shorts) site broken.1)
-    left (FaultOf fault) broken = breaks _ broken
-    left (LogFull n) before = as_before before
-    left (Broken e) before = as_before before
+    left : (error : CoreError) → AppendLeaves tells state mid new error → AppendLeaves tells state old (record new { machine = old.machine }) error
+    left OutOfMemory before = unchanged before
+    left (FaultOf fault) broken = broken
+    left (LogFull n) before = unchanged before
+    left (Broken e) before = unchanged before
 
     by_error : (error : CoreError) → HasAppendCause counts change mid new error → HasAppendCause counts change old (record new { machine = old.machine }) error
     by_error OutOfMemory cause = λ is. subst (λ (w : W). Rose (counts w).shorts (counts new.site).shorts) site (cause is)
@@ -149,8 +165,8 @@ refuses_back {W} tells state counts change old mid new error same fails = record
 
 -- ---- a commit
 
-pub commit_append_stands : {W : Type 0} (tells : Type 0) (state : W → State) (session : ℕ) (change : Change) (old new : Kept W) → Adds tells state session Commit change old old new → tells → StandsWithin state session Commit old new
-commit_append_stands {W} tells state session change old new one t restart changes stored =
+pub commit_append_keeps : {W : Type 0} (tells : Type 0) (state : W → State) (session : ℕ) (change : Change) (old new : Kept W) → Adds tells state session Commit change old old new → tells → KeepsWithin state session Commit old new
+commit_append_keeps {W} tells state session change old new one t restart changes stored =
     commit_stands restart changes old.log old.machine session change one.adds one.may stored (one.moments t changes stored.log)
 
 both_fronts : {W : Type 0} (tells : Type 0) (state : W → State) (session : ℕ) (change : Change) (old mid new : Kept W) → Adds tells state session Commit change old old mid → Appends tells state change old mid → (tells → LeavesFronts state (λ changes. changes) mid new)
@@ -160,15 +176,15 @@ both_fronts {W} tells state session change old mid new one appends flushes t cha
     both_moments (one.moments t changes is)
     (subst (λ (n : ℕ). EachMoment (OnFile the_log (state mid.site).now (HasFirst n (changes ++ change ∷ []))) (state mid.site) (state new.site)) durable (flushes t (changes ++ change ∷ []) (appends.logged t changes is)))
 
-pub commit_flush_stands : {W : Type 0} (tells : Type 0) (state : W → State) (session : ℕ) (change : Change) (old mid new : Kept W) → Adds tells state session Commit change old old mid → Appends tells state change old mid → (tells → LeavesFronts state (λ changes. changes) mid new)
-    → tells → StandsWithin state session Commit old new
-commit_flush_stands {W} tells state session change old mid new one appends flushes t restart changes stored =
+pub commit_flush_keeps : {W : Type 0} (tells : Type 0) (state : W → State) (session : ℕ) (change : Change) (old mid new : Kept W) → Adds tells state session Commit change old old mid → Appends tells state change old mid → (tells → LeavesFronts state (λ changes. changes) mid new)
+    → tells → KeepsWithin state session Commit old new
+commit_flush_keeps {W} tells state session change old mid new one appends flushes t restart changes stored =
     commit_stands restart changes old.log old.machine session change one.adds one.may stored (both_fronts tells state session change old mid new one appends flushes t changes stored.log)
 
-pub answers_commit : {W : Type 0} (tells : Type 0) (state : W → State) (session : ℕ) (change : Change) (old mid new : Kept W) (reply : Reply) → Adds tells state session Commit change old old mid → Appends tells state change old mid
+pub serves_commit : {W : Type 0} (tells : Type 0) (state : W → State) (session : ℕ) (change : Change) (old mid new : Kept W) (reply : Reply) → Adds tells state session Commit change old old mid → Appends tells state change old mid
     → (tells → LeavesFronts state (λ changes. changes) mid new) → Flushes tells state mid new → (next : Machine) → next ≡ state_after old.machine session Commit → new.log.frames ≤ 2 ^ 48
-    → (tells → ReadsImages (state new.site)) → reply ≡ reply_of old.machine session Commit → Answers tells state session Commit old (record new { machine = next }) reply
-answers_commit {W} tells state session change old mid new reply one appends fronts flushes next machine below reads is = record {
+    → (tells → ReadsImages (state new.site)) → reply ≡ reply_of old.machine session Commit → Serves tells state session Commit old (record new { machine = next }) reply
+serves_commit {W} tells state session change old mid new reply one appends fronts flushes next machine below reads is = record {
   reply_is = is;
   machine = machine;
   error = flushes.error ∙ appends.error;
@@ -231,12 +247,12 @@ module _ {W : Type 0} (tells : Type 0) (state : W → State) (session xn commit 
   pub commit_fits : Fits next again.log
   commit_fits = fits_one inside.machine next inside.log again.log session Commit change steps.fits adds (ap (λ (l : Log). l.tables) log_is) (ap (λ (l : Log). l.frames) log_is) (steps.next_is ∙ ap (λ (m : Machine). state_after m session Commit) same)
 
-  pub commit_moments : tells → StandsWithin state session Commit old flushed
-  commit_moments = commit_flush_stands tells state session change old mid flushed one steps.appends steps.flush_fronts
+  pub commit_moments : tells → KeepsWithin state session Commit old flushed
+  commit_moments = commit_flush_keeps tells state session change old mid flushed one steps.appends steps.flush_fronts
 
-  pub commit_answers : (reply : Reply) → again.log.frames ≤ 2 ^ 48 → (tells → ReadsImages (state flushed.site)) → reply ≡ reply_of again.machine session Commit → Answers tells state session Commit old (record again { machine = next }) reply
-  commit_answers reply below reads is =
+  pub commit_serves : (reply : Reply) → again.log.frames ≤ 2 ^ 48 → (tells → ReadsImages (state flushed.site)) → reply ≡ reply_of again.machine session Commit → Serves tells state session Commit old (record again { machine = next }) reply
+  commit_serves reply below reads is =
       let machine : again.machine ≡ old.machine = same ∙ ap (λ (k : Kept W). k.machine) steps.opened in
-      subst (λ (k : Kept W). Answers tells state session Commit old (record k { machine = next }) reply) (sym steps.reopened)
-      (answers_commit tells state session change old mid flushed reply one steps.appends steps.flush_fronts steps.flushes next (steps.next_is ∙ ap (λ (m : Machine). state_after m session Commit) machine)
+      subst (λ (k : Kept W). Serves tells state session Commit old (record k { machine = next }) reply) (sym steps.reopened)
+      (serves_commit tells state session change old mid flushed reply one steps.appends steps.flush_fronts steps.flushes next (steps.next_is ∙ ap (λ (m : Machine). state_after m session Commit) machine)
       (subst (λ (k : Kept W). k.log.frames ≤ 2 ^ 48) steps.reopened below) reads (is ∙ ap (λ (m : Machine). reply_of m session Commit) machine))

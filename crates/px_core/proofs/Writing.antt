@@ -2,6 +2,7 @@
 use Rattle.std.proofs.Common.{◌≡◌, ◌≢◌, ℕ, ◌+◌, ◌^◌, ◌<◌, ◌≤◌, true, false, List, [], ◌∷◌, length, Option, Some, None, refl, sym, ap, subst, ◌∙◌, arith}
 use Rattle.std.proofs.lemmas.Bool.{and_parts, true≢false}
 use Rattle.std.proofs.lemmas.Option.{same_Some}
+use Rattle.px_site.specs.declared.error.Fault.TheVariants.{Write as WriteFault}
 use Rattle.px_model.specs.declared.machine.Open.{Open}
 use Rattle.px_model.specs.declared.write.Write.{Write}
 use Rattle.px_model.specs.declared.write.Write.TheVariants.{Put as PutRow, Delete as DeleteRow}
@@ -22,7 +23,7 @@ use Rattle.px_logged.proofs.Adding.{begin_adds_nothing, get_adds_nothing, hold_a
 use Rattle.px_logged.proofs.Fitted.{adds_what_may_stand, fits_after}
 use Rattle.px_logged.proofs.Grown.{others_keep_committed, opening_stays}
 use Rattle.px_core.specs.Appending.{MayPut}
-use Rattle.px_core.specs.Core.{adds_nothing, is_write, UnlessEnd}
+use Rattle.px_core.specs.Core.{adds_nothing, is_write, MayMeet, UnlessEnd}
 
 -- ---- calls by what they add
 
@@ -73,6 +74,19 @@ write_no_end P (Update table key tag body) writes = tt
 write_no_end P (Delete table key) writes = tt
 write_no_end P Commit writes = absurd (true≢false (sym writes))
 write_no_end P Rollback writes = absurd (true≢false (sym writes))
+
+pub write_meets : (call : Call) → is_write call ≡ true → MayMeet call WriteFault
+write_meets (Insert table key tag body) writes = refl
+write_meets (Update table key tag body) writes = refl
+write_meets (Delete table key) writes = refl
+write_meets Begin writes = absurd (true≢false (sym writes))
+write_meets (Get table key) writes = absurd (true≢false (sym writes))
+write_meets (Hold table key) writes = absurd (true≢false (sym writes))
+write_meets (Fetch ticket) writes = absurd (true≢false (sym writes))
+write_meets (Find table tag) writes = absurd (true≢false (sym writes))
+write_meets (Scan table) writes = absurd (true≢false (sym writes))
+write_meets Commit writes = absurd (true≢false (sym writes))
+write_meets Rollback writes = absurd (true≢false (sym writes))
 
 -- ---- a write that isn't refused
 

@@ -1,9 +1,10 @@
 -- One frame more on the log of a core.
-use Rattle.std.specs.Prelude.{◌≡◌, ◌≢◌, ℕ, true, List, [], ◌∷◌, ◌++◌, Some, None}
-use Rattle.px_site.specs.declared.error.Fault.TheVariants.{Sync, Tell}
+use Rattle.std.specs.Prelude.{◌≡◌, ℕ, true, List, [], ◌∷◌, ◌++◌, Some, None}
+use Rattle.px_site.specs.declared.error.Fault.TheVariants.{Sync, Write as WriteFault}
 use Rattle.px_site.specs.State.{State, EachMoment, OnFile}
 use Rattle.px_site.specs.Cause.{Counts, HasCause, IsOwn, Rose}
 use Rattle.px_site.specs.declared.error.SiteError.{SiteError}
+use Rattle.px_site.specs.declared.error.SiteError.TheVariants.{Fault as SiteFault}
 use Rattle.px_model.specs.declared.write.Write.{Write}
 use Rattle.px_model.specs.Machine.{Machine}
 use Rattle.px_machine_laws.specs.Writers.{writer_of, last_write_of}
@@ -13,7 +14,9 @@ use Rattle.px_told.specs.Changes.{is_end}
 use Rattle.px_xlog.specs.Log.{Log, HasFirst, IsLogOf, full_at, with_frame}
 use Rattle.px_xlog.specs.Payload.{may_hold}
 use Rattle.px_xlog.specs.Contents.{the_log}
-use Rattle.px_core.specs.Core.{Kept, Breaks, Leaves}
+use Rattle.px_core.specs.Core.{Kept}
+use Rattle.px_core.specs.Serving.{Unchanged}
+use Rattle.px_core.specs.Working.{Breaks}
 use Rattle.px_core.specs.declared.error.CoreError.{CoreError}
 use Rattle.px_core.specs.declared.error.CoreError.TheVariants.{OutOfMemory, Fault as FaultOf, LogFull, Broken}
 
@@ -43,18 +46,22 @@ LeavesFronts state grown old new =
 -- the cause of an append's error
 abbrev pub HasAppendCause : {W : Type 0} → (W → Counts) → Change → Kept W → Kept W → CoreError → Type 0
 HasAppendCause counts change old new OutOfMemory = is_end change ≡ true → Rose (counts old.site).shorts (counts new.site).shorts
-HasAppendCause counts change old new (FaultOf fault) = (fault ≢ Tell) × Rose ((counts old.site).faults fault) ((counts new.site).faults fault)
+HasAppendCause counts change old new (FaultOf fault) = (fault ≡ WriteFault) × Rose ((counts old.site).faults fault) ((counts new.site).faults fault)
 HasAppendCause counts change old new (LogFull n) = full_at old.log ≡ Some n
 HasAppendCause counts change old new (Broken error) = ⊥
 
 -- an append's error leaves the core as it was, or broken by a fault
+abbrev pub AppendLeaves : {W : Type 0} → Type 0 → (W → State) → Kept W → Kept W → CoreError → Type 0
+AppendLeaves tells state old new (FaultOf fault) = Breaks (SiteFault fault) new
+AppendLeaves tells state old new _ = Unchanged tells state old new
+
 pub record AppendFails {W : Type 0} (tells : Type 0) (state : W → State) (counts : W → Counts) (change : Change) (old new : Kept W) (error : CoreError) : Type 0 where
-  pub leaves : Leaves tells state counts old new error
+  pub leaves : AppendLeaves tells state old new error
   pub cause : HasAppendCause counts change old new error
 
 -- a sync's error breaks the core, and is the site's
 pub record FlushFails {W : Type 0} (counts : W → Counts) (old new : Kept W) (error : SiteError) : Type 0 where
-  pub breaks : Breaks error old new
+  pub breaks : Breaks error new
   pub cause : HasCause (counts old.site) (counts new.site) error
   pub own : IsOwn Sync error
 

@@ -3,3 +3,4 @@ pub mod Core
 pub mod Errors
 pub mod Rows
 pub mod Serving
+pub mod Working

@@ -3,9 +3,9 @@
 //! - `state`: `Core` over any site, and what its calls leave of the site at every moment.
 //! - `error`: why a call gives up, and the status by which that ends a run.
 //!
-//! The definitions: `specs/Core` what a core keeps and what an error leaves of it; `specs/Serving` what a call answers, and
-//! what stands within it; `specs/Appending` one frame more; `specs/Rows` rows one after the other; `specs/Errors` what each
-//! error turns into.
+//! The definitions: `specs/Core` what a core keeps; `specs/Working` that it works for a machine, and what a session's call
+//! answers and leaves, which is all that is said to others; `specs/Serving` what the call does to the core's own parts;
+//! `specs/Appending` one frame more; `specs/Rows` rows one after the other; `specs/Errors` what each error turns into.
 #![tactic(auto)]
 
 mod error;

@@ -2,10 +2,13 @@ ghost use Rattle.std.specs.Prelude.{◌≡◌, ◌^◌, ◌≤◌, None, Some, I
 ghost use Rattle.px_site.specs.Cause.{TellCounted};
 ghost use Rattle.px_site.specs.State.{Tells};
 ghost use Rattle.px_site.specs.declared.error.SiteError.{SiteError};
+ghost use Rattle.px_model.specs.Machine.{Machine};
 ghost use Rattle.px_logged.specs.Fitting.{Fits};
 ghost use Rattle.px_logged.specs.Recounting.{rows_now};
+ghost use Rattle.px_standing.specs.Found.{HoldsStore};
 ghost use Rattle.px_core.specs.Core.{HasReadCause};
 ghost use Rattle.px_core.specs.Rows.{first_past, is_past};
+ghost use Rattle.px_core.specs.Working.{WorksFor};
 
 mod calls;
 mod logging;
@@ -62,7 +65,7 @@ impl<W: Site> Core<W> {
 
     /// The rows that are committed now, in order of table and key. Fails for want of memory, or where the core is broken.
     pub fn rows(&self) -> Result<RowList, CoreError>
-        ensures rows { IfOk result (λ rows. rows ≡ rows_now self.now.machine) }
+        ensures rows { W.tells → (m : Machine) → WorksFor W.state self.now m → IfOk result (λ rows. rows ≡ rows_now m) }
         ensures broken { (error : SiteError) → self.now.error ≡ Some error → IsErrOf result (CoreError.Broken error) }
         ensures cause { IfErr result (HasReadCause self.now) }
     {
@@ -75,7 +78,8 @@ impl<W: Site> Core<W> {
     /// The first row past a key, in order of table and key, among those that are committed now; the first of all after
     /// None. None exactly where there is none. Fails as `rows` does.
     pub fn next_row(&self, after: Option<&KeyOf>) -> Result<Option<Row>, CoreError>
-        ensures row { IfOk result (λ row. row ≡ first_past (option_copied after.entry) (rows_now self.now.machine)) }
+        ensures row { W.tells → (m : Machine) → WorksFor W.state self.now m
+            → IfOk result (λ row. row ≡ first_past (option_copied after.entry) (rows_now m)) }
         ensures broken { (error : SiteError) → self.now.error ≡ Some error → IsErrOf result (CoreError.Broken error) }
         ensures cause { IfErr result (HasReadCause self.now) }
     {
@@ -92,18 +96,20 @@ impl<W: Site> Core<W> {
         self.error
     }
 
-    /// The site, where no call is to follow.
+    /// The site, where no call is to follow. It is a settled store with all that the machine has committed.
     pub fn close(self) -> W
-        ensures { result ≡ self.site }
+        ensures site { result ≡ self.site }
+        ensures stored { W.tells → (m : Machine) → WorksFor W.state self m → HoldsStore m (W.state result) }
     {
         let Core { site, .. } = self;
         site
     }
 
-    /// The site's `tell`, on a broken core too. The core keeps no error of it.
+    /// The site's `tell`, on a broken core too. The core keeps no error of it, and works on for each machine.
     pub fn tell(&mut self, bytes: &[u8]) -> Result<(), SiteError>
         ensures told { W.tells → Tells bytes.now (W.state self.old.site) (W.state self.new.site) result }
         ensures rest { self.new ≡ record self.old { site = self.new.site } }
+        ensures works { W.tells → (m : Machine) → WorksFor W.state self.old m → WorksFor W.state self.new m }
         ensures counted { TellCounted (W.counts self.old.site) (W.counts self.new.site) result }
     {
         self.site.tell(bytes)

@@ -13,20 +13,16 @@ use Rattle.px_calls.specs.declared.status.Status.TheVariants.{OutputFault}
 use Rattle.px_calls.specs.Histories.{state_after_all}
 use Rattle.px_calls.specs.Steps.{reply_of, state_after}
 use Rattle.px_calls.specs.Texts.{reply_text}
-use Rattle.px_told.specs.declared.change.Change.{Change}
 use Rattle.px_script.specs.Lines.{open_line}
-use Rattle.px_restart.specs.declared.restart.Restart.{Restart}
-use Rattle.px_xlog.specs.Log.{Log}
 use Rattle.px_logged.proofs.Grown.{opening_stays, commits_rise, published_stays}
 use Rattle.px_standing.specs.Standing.{Files, StandsFor}
 use Rattle.px_standing.specs.Images.{IsPlainImage, acked, HasCommitted, HasBetween, StandsBetween}
-use Rattle.px_standing.specs.Stored.{Stored}
 use Rattle.px_play.specs.Acknowledged.{acknowledged, HoldsAcknowledged, KeepsAcknowledged}
 use Rattle.px_play.specs.Turns.{Acknowledges, TellsReply}
 use Rattle.px_play.proofs.Parts.{open_behind}
 use Rattle.px_play.proofs.Replies.{quiet_acknowledged, reply_quiet, committed_acknowledged, committed_front, reply_whole}
 use Rattle.px_play.proofs.Committing.{RepliesCommit, replies_commit}
-use Rattle.px_play.proofs.Stays.{stored_image, commits_fit}
+use Rattle.px_play.proofs.Stays.{StandsWhole}
 
 before_stays : (m : Machine) (session : ℕ) (call : Call) → (state_after m session call).before ≡ m.before
 before_stays m session call = (opening_stays m ((session, call) ∷ [])).before
@@ -150,34 +146,34 @@ call_moments session call calls acks moments = weaker_moments (λ moment stands.
 -- ---- while its reply is told
 
 -- the call is done, and a front of its reply is out
-reply_out : {restart : Restart} {changes : List Change} {log : Log} {before : List ℕ} {m : Machine} {a b : State} (session : ℕ) (call : Call) (calls : List (ℕ × Call)) (acks : Acknowledges before m a) → Stored restart changes log (state_after m session call) b
+reply_out : {before : List ℕ} {m : Machine} {a b : State} (session : ℕ) (call : Call) (calls : List (ℕ × Call)) (acks : Acknowledges before m a) → StandsWhole (state_after m session call) b
     → (image : Files) (few : ℕ) → IsPlainImage b.now image → HoldsAcknowledged (state_after_all m ((session, call) ∷ calls)) (acks.so_far ++ take few (reply_text (reply_of m session call))) image
-reply_out {restart} {changes} {log} {before} {m} {a} {b} session call calls acks stored image few plain =
+reply_out {before} {m} {a} {b} session call calls acks whole image few plain =
     let next : Machine = state_after m session call in
     let out : List ℕ = acks.so_far ++ take few (reply_text (reply_of m session call)) in
     let same : acknowledged next.before out ≡ acknowledged m.before out = ap (λ (n : ℕ). acknowledged n out) (before_stays m session call) in
     let on = commits_on m session call in
-    elim (fronts m session call acks.so_far few acks.whole acks.all (commits_fit stored)) [
-      | inl old ↦ holds_at next calls out image (stored_image stored image plain) (omega (arith, same, old, on.0)) (omega (arith, same, old, on.1))
-      | inr new ↦ holds_at next calls out image (stored_image stored image plain) (omega (arith, same, new)) (omega (arith, same, new))
+    elim (fronts m session call acks.so_far few acks.whole acks.all whole.few) [
+      | inl old ↦ holds_at next calls out image (whole.images.each image plain) (omega (arith, same, old, on.0)) (omega (arith, same, old, on.1))
+      | inr new ↦ holds_at next calls out image (whole.images.each image plain) (omega (arith, same, new)) (omega (arith, same, new))
     ]
 
-telling_moment : {restart : Restart} {changes : List Change} {log : Log} {before : List ℕ} {m : Machine} {a b : State} (session : ℕ) (call : Call) (calls : List (ℕ × Call)) → Acknowledges before m a → b.now.told ≡ a.now.told
-    → Stored restart changes log (state_after m session call) b → KeepsAcknowledged (state_after_all m ((session, call) ∷ calls)) before (telling (reply_text (reply_of m session call)) b.now)
-telling_moment {restart} {changes} {log} {before} {m} {a} {b} session call calls acks same stored =
+telling_moment : {before : List ℕ} {m : Machine} {a b : State} (session : ℕ) (call : Call) (calls : List (ℕ × Call)) → Acknowledges before m a → b.now.told ≡ a.now.told
+    → StandsWhole (state_after m session call) b → KeepsAcknowledged (state_after_all m ((session, call) ∷ calls)) before (telling (reply_text (reply_of m session call)) b.now)
+telling_moment {before} {m} {a} {b} session call calls acks same whole =
     let text : List ℕ = reply_text (reply_of m session call) in
     record {
       each = λ image out plain is_out.
           let behind : drop (length before) out ≡ acks.so_far ++ take is_out.front text =
           out_behind before acks.so_far text out b.now.told is_out.front is_out.text (same ∙ acks.told) in
           subst (λ (o : List ℕ). HoldsAcknowledged (state_after_all m ((session, call) ∷ calls)) o image) (sym behind)
-          (reply_out session call calls acks stored image is_out.front (record { each = plain.each; first = plain.first; second = plain.second; log = plain.log }));
+          (reply_out session call calls acks whole image is_out.front (record { each = plain.each; first = plain.first; second = plain.second; log = plain.log }));
       told_later = (acks.so_far, same ∙ acks.told);
     }
 
-told_moment : {restart : Restart} {changes : List Change} {log : Log} {before : List ℕ} {m : Machine} {a b : State} (session : ℕ) (call : Call) (calls : List (ℕ × Call)) → Acknowledges before m a → b.now.told ≡ a.now.told
-    → Stored restart changes log (state_after m session call) b → (few : ℕ) → KeepsAcknowledged (state_after_all m ((session, call) ∷ calls)) before (told (take few (reply_text (reply_of m session call))) b.now)
-told_moment {restart} {changes} {log} {before} {m} {a} {b} session call calls acks same stored few =
+told_moment : {before : List ℕ} {m : Machine} {a b : State} (session : ℕ) (call : Call) (calls : List (ℕ × Call)) → Acknowledges before m a → b.now.told ≡ a.now.told
+    → StandsWhole (state_after m session call) b → (few : ℕ) → KeepsAcknowledged (state_after_all m ((session, call) ∷ calls)) before (told (take few (reply_text (reply_of m session call))) b.now)
+told_moment {before} {m} {a} {b} session call calls acks same whole few =
     let part : List ℕ = take few (reply_text (reply_of m session call)) in
     let told_is : b.now.told ++ part ≡ before ++ (acks.so_far ++ part) = ap (λ (o : List ℕ). o ++ part) (same ∙ acks.told) ∙ append_assoc before acks.so_far part in
     record {
@@ -186,16 +182,16 @@ told_moment {restart} {changes} {log} {before} {m} {a} {b} session call calls ac
           out_behind before (acks.so_far ++ part) [] out (b.now.told ++ part) is_out.front is_out.text told_is
           ∙ ap (λ (o : List ℕ). acks.so_far ++ part ++ o) (nothing_taken is_out.front [] refl) ∙ append-nil (acks.so_far ++ part) in
           subst (λ (o : List ℕ). HoldsAcknowledged (state_after_all m ((session, call) ∷ calls)) o image) (sym behind)
-          (reply_out session call calls acks stored image few (record { each = plain.each; first = plain.first; second = plain.second; log = plain.log }));
+          (reply_out session call calls acks whole image few (record { each = plain.each; first = plain.first; second = plain.second; log = plain.log }));
       told_later = (acks.so_far ++ part, told_is);
     }
 
 spoke_moments : {P : Moment → Type 0} {b c : State} (text out : List ℕ) → c ≡ spoke text out b → P (telling text b.now) → P (told out b.now) → EachMoment P b c
 spoke_moments {P} {b} text out e within after = record { added = told out b.now ∷ telling text b.now ∷ []; grown = ap history e; each = (after, (within, tt)) }
 
-pub reply_moments : {restart : Restart} {changes : List Change} {log : Log} {before : List ℕ} {m : Machine} {a b c : State} (session : ℕ) (call : Call) (calls : List (ℕ × Call)) → Acknowledges before m a → b.now.told ≡ a.now.told
-    → Stored restart changes log (state_after m session call) b → (result : Result (Unit {0}) Status) → TellsReply (reply_of m session call) b c result → EachMoment (KeepsAcknowledged (state_after_all m ((session, call) ∷ calls)) before) b c
-reply_moments {restart} {changes} {log} {before} {m} {a} {b} {c} session call calls acks same stored result tells = by_result result tells
+pub reply_moments : {before : List ℕ} {m : Machine} {a b c : State} (session : ℕ) (call : Call) (calls : List (ℕ × Call)) → Acknowledges before m a → b.now.told ≡ a.now.told
+    → StandsWhole (state_after m session call) b → (result : Result (Unit {0}) Status) → TellsReply (reply_of m session call) b c result → EachMoment (KeepsAcknowledged (state_after_all m ((session, call) ∷ calls)) before) b c
+reply_moments {before} {m} {a} {b} {c} session call calls acks same whole result tells = by_result result tells
   where
     text : List ℕ
     text = reply_text (reply_of m session call)
@@ -204,7 +200,7 @@ reply_moments {restart} {changes} {log} {before} {m} {a} {b} {c} session call ca
     Keeps = KeepsAcknowledged (state_after_all m ((session, call) ∷ calls)) before
 
     fronted : (few : ℕ) → c ≡ spoke text (take few text) b → EachMoment Keeps b c
-    fronted few e = spoke_moments text (take few text) e (telling_moment session call calls acks same stored) (told_moment session call calls acks same stored few)
+    fronted few e = spoke_moments text (take few text) e (telling_moment session call calls acks same whole) (told_moment session call calls acks same whole few)
 
     by_result : (result : Result (Unit {0}) Status) → TellsReply (reply_of m session call) b c result → EachMoment Keeps b c
     by_result (Ok done) e = fronted (length text) (e ∙ ap (λ (out : List ℕ). spoke text out b) (sym (take_all (length text) text (omega arith))))

@@ -1,9 +1,9 @@
 -- What a call and the telling of its reply leave.
-use Rattle.std.proofs.Common.{◌≡◌, ◌≢◌, ◌⊎◌, ℕ, ◌+◌, ◌≤◌, ◌==◌, ltb, Bool, true, false, cond, List, [], ◌∷◌, ◌++◌, length, take, Option, Some, None, Result, Ok, Err, refl, sym, ap, subst, ◌∙◌, inl, inr, arith, length-append}
+use Rattle.std.proofs.Common.{◌≡◌, ◌⊎◌, ℕ, ◌+◌, ◌≤◌, ◌==◌, Bool, true, false, cond, List, [], ◌∷◌, ◌++◌, length, take, Option, Some, None, Result, Ok, Err, refl, sym, ap, subst, ◌∙◌, inl, inr, arith}
 use Rattle.std.specs.Result.{IfErr}
-use Rattle.std.proofs.lemmas.Bool.{ltb-true, ltb-false}
-use Rattle.std.proofs.lemmas.Option.{same_Some}
-use Rattle.px_site.specs.State.{State, Moment, EachMoment, spoke}
+use Rattle.std.proofs.lemmas.Bool.{cases_lt}
+use Rattle.px_site.specs.declared.error.Fault.TheVariants.{Tell}
+use Rattle.px_site.specs.State.{State, Moment, EachMoment}
 use Rattle.px_site.specs.Cause.{Counts, NoneFell, Rose}
 use Rattle.px_site.proofs.Moments.{then_moments}
 use Rattle.px_site.specs.declared.error.SiteError.TheVariants.{OutOfMemory as SiteShort, Fault as SiteFault}
@@ -18,20 +18,18 @@ use Rattle.px_calls.specs.declared.status.Status.TheVariants.{OutputFault, OutOf
 use Rattle.px_calls.specs.Steps.{open_of, is_refusal, reply_of, state_after}
 use Rattle.px_calls.specs.Texts.{reply_text}
 use Rattle.px_told.specs.declared.change.Change.{Change}
-use Rattle.px_restart.specs.declared.restart.Restart.{Restart}
-use Rattle.px_xlog.specs.Log.{Log, full_at, most_frames}
+use Rattle.px_xlog.specs.Log.{most_frames}
 use Rattle.px_logged.specs.Logged.{put_of, end_of, logged_when_done, logged}
-use Rattle.px_standing.specs.Stored.{Stored}
 use Rattle.px_standing.specs.Images.{StandsBetween}
 use Rattle.px_standing.proofs.Standing.{last_moment}
 use Rattle.px_core.specs.declared.error.CoreError.{CoreError}
 use Rattle.px_core.specs.declared.error.CoreError.TheVariants.{OutOfMemory as CoreShort, Fault as FaultOf, LogFull as FullAt, Broken}
-use Rattle.px_core.specs.Core.{Kept}
+use Rattle.px_core.specs.Core.{Kept, MayMeet, OnlyCommit, frames_of}
 use Rattle.px_core.specs.Errors.{status_of}
-use Rattle.px_core.specs.Serving.{Answers, Refuses, StandsWithin}
+use Rattle.px_core.specs.Working.{Answers, AsBefore, FindsFull, Leaves, Refuses, StandsWithin, WorksFor}
 use Rattle.px_play.specs.Causes.{HasPlayCause}
-use Rattle.px_play.specs.Turns.{HasAnswerEnd, HasTellEnd, TellsReply, Answered, FoundFull, TurnsRight, KeepsWithin}
-use Rattle.px_play.proofs.Stays.{stored_spoke}
+use Rattle.px_play.specs.Turns.{HasAnswerEnd, HasTellEnd, IsStill, TellsReply, WasMade, TurnsRight, KeepsWithin}
+use Rattle.px_play.proofs.Stays.{stands_whole}
 use Rattle.px_play.proofs.Acking.{call_moments, reply_moments}
 
 -- ---- the log has room
@@ -65,28 +63,12 @@ logged_few m session call = unless_refused (is_refusal (reply_of m session call)
     unless_refused true changes few = omega arith
     unless_refused false changes few = few
 
-is_full : (log : Log) (n : ℕ) → full_at log ≡ Some n → (n ≡ log.frames) × (most_frames ≤ n)
-is_full log n full = by_room (ltb log.frames most_frames) refl
-  where
-    by_room : (room : Bool) → ltb log.frames most_frames ≡ room → (n ≡ log.frames) × (most_frames ≤ n)
-    by_room true some = let none : full_at log ≡ None = ap (λ (b : Bool). cond b None (Some log.frames)) some in absurd cc
-    by_room false none =
-        let at : full_at log ≡ Some log.frames = ap (λ (b : Bool). cond b None (Some log.frames)) none in
-        let same : log.frames ≡ n = same_Some log.frames n (sym at ∙ full) in
-        (sym same, omega (arith, same, ltb-false log.frames most_frames none))
-
-some_none : (n : ℕ) → Some n ≡ None → ⊥
-some_none n e = cc e
-
 -- no frame is written that has no number
-numbered : (log : Log) (changes added : List Change) → log.frames ≡ length changes → length added ≤ 1 → (full_at log ≢ None → added ≡ []) → (added ≡ []) ⊎ (length (changes ++ added) ≤ most_frames)
-numbered log changes added count few room = by_room (ltb log.frames most_frames) refl
-  where
-    by_room : (free : Bool) → ltb log.frames most_frames ≡ free → (added ≡ []) ⊎ (length (changes ++ added) ≤ most_frames)
-    by_room true some = inr (omega (arith, ltb-true log.frames most_frames some, count, few, length-append changes added))
-    by_room false none =
-        let at : full_at log ≡ Some log.frames = ap (λ (b : Bool). cond b None (Some log.frames)) none in
-        inl (room (λ (is : full_at log ≡ None). absurd (some_none log.frames (sym at ∙ is))))
+numbered : (frames : ℕ) (added : List Change) → length added ≤ 1 → (most_frames ≤ frames → added ≡ []) → (added ≡ []) ⊎ (frames + length added ≤ most_frames)
+numbered frames added few room = elim (cases_lt frames most_frames) as (λ _. (added ≡ []) ⊎ (frames + length added ≤ most_frames)) [
+  | inl below ↦ inr (omega (arith, below, few))
+  | inr full ↦ inl (room full)
+]
 
 -- ---- the call was answered
 
@@ -98,111 +80,119 @@ told_still {least} {most} {m} {a} {b} moments =
       | inr stands ↦ stands.told
     ]
 
--- the core is as after the call, but for its site
-record OnlyTold {W : Type 0} (mid new : Kept W) : Type 0 where
-  machine : new.machine ≡ mid.machine
-  log : new.log ≡ mid.log
+-- the core works for a machine still, wherever it did before its reply was told
+abbrev pub WorksOn : {W : Type 0} → (W → State) → (mid new : Kept W) → Type 0
+WorksOn state mid new = (m : Machine) → WorksFor state mid m → WorksFor state new m
 
-only_told : {W : Type 0} {mid new : Kept W} → new ≡ record mid { site = new.site } → OnlyTold mid new
-only_told {W} e = record { machine = ap (λ (k : Kept W). k.machine) e; log = ap (λ (k : Kept W). k.log) e }
-
-answered : {W : Type 0} {tells : Type 0} {state : W → State} {session : ℕ} {call : Call} {old mid new : Kept W} {reply : Reply} {restart : Restart} {changes : List Change} → tells
-    → Answers tells state session call old mid reply → StandsWithin state session call old mid → OnlyTold mid new → state new.site ≡ spoke (reply_text reply) (reply_text reply) (state mid.site)
-    → Stored restart changes old.log old.machine (state old.site) → Answered restart changes (session, call) old new (state old.site) (state new.site)
-answered {W} {tells} {state} {session} {call} {old} {mid} {new} {reply} {restart} {changes} told answers stands only spoken stored =
-    let later : List Change = changes ++ logged old.machine session call in
-    let text : List ℕ = reply_text reply in
+was_made : {W : Type 0} {state : W → State} {session : ℕ} {call : Call} {old mid new : Kept W} {reply : Reply} {m : Machine} → Answers state session call m old mid reply → WorksOn state mid new → new ≡ record mid { site = new.site }
+    → WasMade state m (session, call) old new
+was_made {W} {state} {session} {call} {old} {mid} {new} {reply} {m} answers on rest =
+    let frames : frames_of new ≡ frames_of old + length (logged m session call) = ap frames_of rest ∙ answers.frames in
     record {
-      machine = only.machine ∙ answers.machine;
-      stored = subst (λ (s : State). Stored restart later new.log new.machine s) (sym spoken)
-          (subst (λ (m : Machine). Stored restart later new.log m (spoke text text (state mid.site))) (sym only.machine)
-          (subst (λ (l : Log). Stored restart later l mid.machine (spoke text text (state mid.site))) (sym only.log)
-          (stored_spoke text text (answers.stored told restart changes stored))));
-      told = ap (λ (s : State). s.now.told) spoken ∙ ap (λ (r : Reply). (state mid.site).now.told ++ reply_text r) answers.reply_is
-          ∙ ap (λ (b : List ℕ). b ++ reply_text (reply_of old.machine session call)) (told_still (stands restart changes stored));
-      numbered = numbered old.log changes (logged old.machine session call) stored.log.count (logged_few old.machine session call) answers.room;
+      works = on (state_after m session call) answers.works;
+      frames = frames;
+      numbered = subst (λ (n : ℕ). (logged m session call ≡ []) ⊎ (n ≤ most_frames)) (sym frames) (numbered (frames_of old) (logged m session call) (logged_few m session call) answers.room);
     }
 
-pub answered_right : {W : Type 0} {tells : Type 0} {state : W → State} (counts : W → Counts) {session : ℕ} {call : Call} {old mid : Kept W} (new : Kept W) {reply : Reply} → tells
-    → Answers tells state session call old mid reply → StandsWithin state session call old mid → new ≡ record mid { site = new.site }
-    → (result : Result (Unit {0}) Status) → TellsReply reply (state mid.site) (state new.site) result → IfErr result (HasTellEnd (counts mid.site) (counts new.site))
-    → (restart : Restart) (changes : List Change) → Stored restart changes old.log old.machine (state old.site) → TurnsRight restart changes (session, call) old new (state old.site) (state new.site) result
-answered_right {W} {tells} {state} counts {session} {call} {old} {mid} new {reply} told answers stands rest result tells_reply ends restart changes stored = by_result result tells_reply ends
+pub answered_right : {W : Type 0} {state : W → State} (counts : W → Counts) {session : ℕ} {call : Call} {old mid : Kept W} (new : Kept W) {reply : Reply} {m : Machine} → Answers state session call m old mid reply
+    → StandsWithin state session call m old mid → WorksOn state mid new → new ≡ record mid { site = new.site } → (result : Result (Unit {0}) Status)
+    → TellsReply reply (state mid.site) (state new.site) result → IfErr result (HasTellEnd (counts mid.site) (counts new.site)) → TurnsRight state counts m (session, call) old new result
+answered_right {W} {state} counts {session} {call} {old} {mid} new {reply} {m} answers stands on rest result tells_reply ends = by_result result tells_reply ends
   where
     before : (state mid.site).now.told ≡ (state old.site).now.told
-    before = told_still (stands restart changes stored)
+    before = told_still stands
 
-    by_result : (result : Result (Unit {0}) Status) → TellsReply reply (state mid.site) (state new.site) result → IfErr result (HasTellEnd (counts mid.site) (counts new.site))
-        → TurnsRight restart changes (session, call) old new (state old.site) (state new.site) result
-    by_result (Ok done) spoken ends = answered told answers stands (only_told rest) spoken stored
+    made : WasMade state m (session, call) old new
+    made = was_made answers on rest
+
+    by_result : (result : Result (Unit {0}) Status) → TellsReply reply (state mid.site) (state new.site) result → IfErr result (HasTellEnd (counts mid.site) (counts new.site)) → TurnsRight state counts m (session, call) old new result
+    by_result (Ok done) spoken ends = record {
+      made = made;
+      told = ap (λ (s : State). s.now.told) spoken ∙ ap (λ (r : Reply). (state mid.site).now.told ++ reply_text r) answers.reply_is
+          ∙ ap (λ (b : List ℕ). b ++ reply_text (reply_of m session call)) before;
+    }
     by_result (Err OutputFault) spoken ends = (
       spoken.0,
-      ap (λ (s : State). s.now.told) spoken.1 ∙ ap (λ (r : Reply). (state mid.site).now.told ++ take spoken.0 (reply_text r)) answers.reply_is
-          ∙ ap (λ (b : List ℕ). b ++ take spoken.0 (reply_text (reply_of old.machine session call))) before,
+      record {
+        made = made;
+        told = ap (λ (s : State). s.now.told) spoken.1 ∙ ap (λ (r : Reply). (state mid.site).now.told ++ take spoken.0 (reply_text r)) answers.reply_is
+            ∙ ap (λ (b : List ℕ). b ++ take spoken.0 (reply_text (reply_of m session call))) before;
+      },
     )
     by_result (Err (LogFull n)) same ends = absurd ends
-    by_result (Err _) same ends = ap (λ (s : State). s.now.told) same ∙ before
+    by_result (Err OutOfMemory) same ends = record { told = ap (λ (s : State). s.now.told) same ∙ before; left = inr (inl made) }
+    by_result (Err _) same ends = absurd ends
 
-pub answered_moments : {W : Type 0} {tells : Type 0} {state : W → State} {session : ℕ} {call : Call} {old mid : Kept W} (new : Kept W) {reply : Reply} → tells
-    → Answers tells state session call old mid reply → StandsWithin state session call old mid → (result : Result (Unit {0}) Status) → TellsReply reply (state mid.site) (state new.site) result
-    → KeepsWithin (session, call) old (state old.site) (state new.site)
-answered_moments {W} {tells} {state} {session} {call} {old} {mid} new {reply} told answers stands result tells_reply = λ restart changes stored before acks calls.
-    let moments = stands restart changes stored in
-    let after : Stored restart (changes ++ logged old.machine session call) mid.log (state_after old.machine session call) (state mid.site) =
-    subst (λ (m : Machine). Stored restart (changes ++ logged old.machine session call) mid.log m (state mid.site)) answers.machine (answers.stored told restart changes stored) in
-    let telling : TellsReply (reply_of old.machine session call) (state mid.site) (state new.site) result =
+pub answered_moments : {W : Type 0} {state : W → State} {session : ℕ} {call : Call} {old mid : Kept W} (new : Kept W) {reply : Reply} {m : Machine} → Answers state session call m old mid reply
+    → StandsWithin state session call m old mid → (result : Result (Unit {0}) Status) → TellsReply reply (state mid.site) (state new.site) result
+    → KeepsWithin m (session, call) (state old.site) (state new.site)
+answered_moments {W} {state} {session} {call} {old} {mid} new {reply} {m} answers stands result tells_reply = λ before acks calls.
+    let telling : TellsReply (reply_of m session call) (state mid.site) (state new.site) result =
     subst (λ (r : Reply). TellsReply r (state mid.site) (state new.site) result) answers.reply_is tells_reply in
-    then_moments (call_moments session call calls acks moments) (reply_moments session call calls acks (told_still moments) after result telling)
+    then_moments (call_moments session call calls acks stands) (reply_moments session call calls acks (told_still stands) (stands_whole answers.works) result telling)
 
 -- ---- the core gave up
 
 no_error : {A : Type 0} (kept : Option A) (error : A) → kept ≡ None → kept ≡ Some error → ⊥
 no_error kept error none some = cc (sym none ∙ some)
 
-found_full : {W : Type 0} {tells : Type 0} {state : W → State} {counts : W → Counts} {session : ℕ} {call : Call} {old new : Kept W} {restart : Restart} {changes : List Change} (n : ℕ) → tells
-    → Refuses tells state counts session call old new (FullAt n) → Stored restart changes old.log old.machine (state old.site) → FoundFull restart changes (session, call) old new (state old.site) (state new.site) n
-found_full {W} {tells} {state} {counts} {session} {call} {old} {new} {restart} {changes} n told refuses stored =
-    let same : state new.site ≡ state old.site = refuses.leaves.site told in
-    let full = is_full old.log n refuses.cause.0 in
+still : {W : Type 0} {tells : Type 0} {state : W → State} {m : Machine} {old new : Kept W} → tells → AsBefore tells state old new → WorksFor state old m → IsStill state m old new
+still {W} {tells} {state} {m} told before works = record { works = before.works told m works; frames = before.frames }
+
+only_commit : {P : Type 0} (call : Call) → OnlyCommit call P → (call ≡ Commit) × P
+only_commit Commit p = (refl, p)
+only_commit _ none = absurd none
+
+-- want of memory
+left_short : {W : Type 0} {tells : Type 0} {state : W → State} (counts : W → Counts) (session : ℕ) (call : Call) {m : Machine} {old new : Kept W} → tells → Leaves tells state counts call old new CoreShort → WorksFor state old m
+    → IsStill state m old new ⊎ (WasMade state m (session, call) old new ⊎ ((call ≡ Commit) × Rose (counts old.site).shorts (counts new.site).shorts))
+left_short counts session call told (inl before) works = inl (still told before works)
+left_short counts session call told (inr only) works = let one = only_commit call only in inr (inr (one.0, one.1.1))
+
+pub refused_right : {W : Type 0} {tells : Type 0} {state : W → State} {counts : W → Counts} (session : ℕ) (call : Call) (m : Machine) {old new : Kept W} (error : CoreError) → tells → Refuses tells state counts call old new error
+    → FindsFull session call m old error → StandsWithin state session call m old new → WorksFor state old m → TurnsRight state counts m (session, call) old new (Err (status_of error))
+refused_right {W} {tells} {state} {counts} session call m CoreShort told refuses full stands works = record { told = told_still stands; left = left_short counts session call told refuses.leaves works }
+refused_right session call m (FaultOf fault) told refuses full stands works = told_still stands
+refused_right session call m (FullAt n) told refuses full stands works =
+    let is = full n refl in
     record {
-      machine = refuses.leaves.machine;
-      stored = subst (λ (s : State). Stored restart changes new.log new.machine s) (sym same)
-          (subst (λ (m : Machine). Stored restart changes new.log m (state old.site)) (sym refuses.leaves.machine)
-          (subst (λ (l : Log). Stored restart changes l old.machine (state old.site)) (sym refuses.leaves.log) stored));
-      told = ap (λ (s : State). s.now.told) same;
-      writes = refuses.cause.1;
-      number = full.0 ∙ stored.log.count;
-      none_left = full.1;
+      still = still told refuses.leaves works;
+      told = told_still stands;
+      writes = is.0;
+      number = is.1;
+      none_left = is.2;
     }
+refused_right session call m (Broken SiteShort) told refuses full stands works = record { told = told_still stands; left = inl (still told refuses.leaves works) }
+refused_right session call m (Broken (SiteFault fault)) told refuses full stands works = told_still stands
 
-pub refused_right : {W : Type 0} {tells : Type 0} {state : W → State} {counts : W → Counts} {session : ℕ} {call : Call} {old new : Kept W} (error : CoreError) → tells → old.error ≡ None
-    → Refuses tells state counts session call old new error → StandsWithin state session call old new
-    → (restart : Restart) (changes : List Change) → Stored restart changes old.log old.machine (state old.site) → TurnsRight restart changes (session, call) old new (state old.site) (state new.site) (Err (status_of error))
-refused_right CoreShort told whole refuses stands restart changes stored = told_still (stands restart changes stored)
-refused_right (FaultOf fault) told whole refuses stands restart changes stored = told_still (stands restart changes stored)
-refused_right (FullAt n) told whole refuses stands restart changes stored = found_full n told refuses stored
-refused_right (Broken SiteShort) told whole refuses stands restart changes stored = told_still (stands restart changes stored)
-refused_right (Broken (SiteFault fault)) told whole refuses stands restart changes stored = told_still (stands restart changes stored)
-
-pub refused_moments : {W : Type 0} (state : W → State) (session : ℕ) (call : Call) (old new : Kept W) → StandsWithin state session call old new → KeepsWithin (session, call) old (state old.site) (state new.site)
-refused_moments state session call old new stands = λ restart changes stored before acks calls. call_moments session call calls acks (stands restart changes stored)
+pub refused_moments : {W : Type 0} (state : W → State) (session : ℕ) (call : Call) (m : Machine) (old new : Kept W) → StandsWithin state session call m old new → KeepsWithin m (session, call) (state old.site) (state new.site)
+refused_moments state session call m old new stands = λ before acks calls. call_moments session call calls acks stands
 
 -- ---- why
 
-pub refused_ends : {W : Type 0} {tells : Type 0} {state : W → State} {counts : W → Counts} {session : ℕ} {call : Call} {old new : Kept W} (error : CoreError) → Refuses tells state counts session call old new error → HasAnswerEnd (status_of error)
+pub refused_ends : {W : Type 0} {tells : Type 0} {state : W → State} {counts : W → Counts} {call : Call} {old new : Kept W} (error : CoreError) → Refuses tells state counts call old new error → HasAnswerEnd (status_of error)
 refused_ends CoreShort refuses = tt
 refused_ends (FaultOf fault) refuses = tt
 refused_ends (FullAt n) refuses = tt
 refused_ends (Broken SiteShort) refuses = tt
 refused_ends (Broken (SiteFault fault)) refuses = tt
 
-pub refused_cause : {W : Type 0} {tells : Type 0} {state : W → State} {counts : W → Counts} {session : ℕ} {call : Call} {old new : Kept W} (error : CoreError) → old.error ≡ None → Refuses tells state counts session call old new error
+no_tell : (call : Call) → MayMeet call Tell → ⊥
+no_tell Commit (inl is) = cc is
+no_tell Commit (inr is) = cc is
+no_tell Rollback is = cc is
+no_tell (Insert table key tag body) is = cc is
+no_tell (Update table key tag body) is = cc is
+no_tell (Delete table key) is = cc is
+no_tell _ none = absurd none
+
+pub refused_cause : {W : Type 0} {tells : Type 0} {state : W → State} {counts : W → Counts} {call : Call} {old new : Kept W} (error : CoreError) → old.error ≡ None → Refuses tells state counts call old new error
     → HasPlayCause (counts old.site) (counts new.site) 0 0 (status_of error)
 refused_cause CoreShort whole refuses = tt
-refused_cause (FaultOf fault) whole refuses = refuses.cause
-refused_cause {W} {tells} {state} {counts} {session} {call} {old} (FullAt n) whole refuses = (is_full old.log n refuses.cause.0).1
+refused_cause {W} {tells} {state} {counts} {call} (FaultOf fault) whole refuses = (λ (is : fault ≡ Tell). no_tell call (subst (MayMeet call) is refuses.cause.0), refuses.cause.1)
+refused_cause (FullAt n) whole refuses = refuses.cause.1
 refused_cause (Broken SiteShort) whole refuses = tt
-refused_cause {W} {tells} {state} {counts} {session} {call} {old} (Broken (SiteFault fault)) whole refuses = absurd (no_error old.error (SiteFault fault) whole refuses.cause)
+refused_cause {W} {tells} {state} {counts} {call} {old} (Broken (SiteFault fault)) whole refuses = absurd (no_error old.error (SiteFault fault) whole refuses.cause)
 
 pub rose_on : (before mid after : ℕ) → before ≤ mid → Rose mid after → Rose before after
 rose_on before mid after rises rose = omega (arith, rises, rose)

@@ -1,11 +1,9 @@
 ghost use Rattle.std.specs.Prelude.{◌≡◌, ◌≤◌, ◌++◌, ℕ, List, None};
 ghost use Rattle.px_site.specs.Cause.{NoneFell};
 ghost use Rattle.px_site.specs.State.{EachMoment};
-ghost use Rattle.px_model.specs.Machine.{commits};
+ghost use Rattle.px_model.specs.Machine.{Machine, commits};
 ghost use Rattle.px_calls.specs.Histories.{state_after_all};
-ghost use Rattle.px_told.specs.declared.change.Change.{Change};
-ghost use Rattle.px_restart.specs.declared.restart.Restart.{Restart};
-ghost use Rattle.px_standing.specs.Stored.{Stored};
+ghost use Rattle.px_core.specs.Working.{WorksFor};
 ghost use Rattle.px_play.specs.Acknowledged.{KeepsAcknowledged, TellsWhole, acknowledged};
 ghost use Rattle.px_play.specs.Causes.{HasPlayCause};
 ghost use Rattle.px_play.specs.Input.{EndsInput, script_of};
@@ -32,21 +30,20 @@ use std::alloc::Global;
 /// - `LogFull`: a call had a frame to write for which the log has no number left.
 /// - `OutOfMemory`: a call, a line or a reply's text wanted memory.
 ///
-/// No other status comes. After `DiskFault`, and after `OutOfMemory`, the core may be broken.
+/// No other status comes. After `DiskFault` the core may be broken, and after `OutOfMemory` where the site wanted memory
+/// within a commit. Else it works on: at `OutputFault` the last call was made, and its reply told in part.
 pub fn play<W: Site, S: Source>(alloc: Global, core: &mut Core<W>, source: &mut S) -> Status
     requires whole { core.old.error ≡ None }
     ensures cause { HasPlayCause (W.counts core.old.site) (W.counts core.new.site) (S.faults source.old) (S.faults source.new) result }
     ensures none_fell { NoneFell (W.counts core.old.site) (W.counts core.new.site) }
     ensures source_none_fell { S.faults source.old ≤ S.faults source.new }
     ensures input { S.tells → EndsInput (S.left source.old) (S.left source.new) result }
-    ensures plays { W.tells → S.tells → (restart : Restart) (changes : List Change)
-        → Stored restart changes core.old.log core.old.machine (W.state core.old.site)
-        → PlaysRight restart changes core.old core.new (S.left source.old) (S.left source.new) (W.state core.old.site) (W.state core.new.site) result }
-    ensures moments { W.tells → S.tells → (restart : Restart) (changes : List Change)
-        → Stored restart changes core.old.log core.old.machine (W.state core.old.site)
+    ensures plays { W.tells → S.tells → (m : Machine) → WorksFor W.state core.old m
+        → PlaysRight W.state W.counts m core.old core.new (S.left source.old) (S.left source.new) result }
+    ensures moments { W.tells → S.tells → (m : Machine) → WorksFor W.state core.old m
         → (before so_far : List ℕ) → (W.state core.old.site).now.told ≡ before ++ so_far → TellsWhole so_far
-        → acknowledged core.old.machine.before so_far ≡ commits core.old.machine
-        → EachMoment (KeepsAcknowledged (state_after_all core.old.machine (script_of (S.left source.old))) before) (W.state core.old.site) (W.state core.new.site) }
+        → acknowledged m.before so_far ≡ commits m
+        → EachMoment (KeepsAcknowledged (state_after_all m (script_of (S.left source.old))) before) (W.state core.old.site) (W.state core.new.site) }
 {
     let mut lines = Lines::new(alloc);
     let mut text = Vec::new(alloc);

@@ -1,11 +1,10 @@
 // One line of a script: its call, the core's reply, and that the reply is told.
-ghost use Rattle.std.specs.Prelude.{◌≡◌, ℕ, List, Some, None, IfErr, OnOk};
+ghost use Rattle.std.specs.Prelude.{◌≡◌, ℕ, Some, None, IfErr, OnOk};
 ghost use Rattle.px_site.specs.Cause.{NoneFell};
+ghost use Rattle.px_model.specs.Machine.{Machine};
 ghost use Rattle.px_calls.specs.declared.call.Call.{Call};
-ghost use Rattle.px_told.specs.declared.change.Change.{Change};
 ghost use Rattle.px_script.specs.Grammar.{command_line};
-ghost use Rattle.px_restart.specs.declared.restart.Restart.{Restart};
-ghost use Rattle.px_standing.specs.Stored.{Stored};
+ghost use Rattle.px_core.specs.Working.{WorksFor};
 ghost use Rattle.px_play.specs.Causes.{HasPlayCause};
 ghost use Rattle.px_play.specs.Turns.{HasAnswerEnd, HasTellEnd, HasTurnEnd, KeepsWithin, TellsReply, TurnsRight};
 
@@ -38,10 +37,9 @@ pub(crate) fn turn<W: Site>(
     ensures none_fell { NoneFell (W.counts core.old.site) (W.counts core.new.site) }
     ensures unplayed { command_line line.now ≡ None → core.new ≡ core.old }
     ensures plays { W.tells → (c : ℕ × Call) → command_line line.now ≡ Some c
-        → (restart : Restart) (changes : List Change) → Stored restart changes core.old.log core.old.machine (W.state core.old.site)
-        → TurnsRight restart changes c core.old core.new (W.state core.old.site) (W.state core.new.site) result }
+        → (m : Machine) → WorksFor W.state core.old m → TurnsRight W.state W.counts m c core.old core.new result }
     ensures moments { W.tells → (c : ℕ × Call) → command_line line.now ≡ Some c
-        → KeepsWithin c core.old (W.state core.old.site) (W.state core.new.site) }
+        → (m : Machine) → WorksFor W.state core.old m → KeepsWithin m c (W.state core.old.site) (W.state core.new.site) }
 {
     let (session, call) = command(alloc, line, number)?;
     answer(core, session, call, text)
@@ -59,9 +57,8 @@ fn answer<W: Site>(
     ensures cause { IfErr result (HasPlayCause (W.counts core.old.site) (W.counts core.new.site) 0 0) }
     ensures whole { OnOk result (core.new.error ≡ None) }
     ensures none_fell { NoneFell (W.counts core.old.site) (W.counts core.new.site) }
-    ensures plays { W.tells → (restart : Restart) (changes : List Change) → Stored restart changes core.old.log core.old.machine (W.state core.old.site)
-        → TurnsRight restart changes (session, call) core.old core.new (W.state core.old.site) (W.state core.new.site) result }
-    ensures moments { W.tells → KeepsWithin (session, call) core.old (W.state core.old.site) (W.state core.new.site) }
+    ensures plays { W.tells → (m : Machine) → WorksFor W.state core.old m → TurnsRight W.state W.counts m (session, call) core.old core.new result }
+    ensures moments { W.tells → (m : Machine) → WorksFor W.state core.old m → KeepsWithin m (session, call) (W.state core.old.site) (W.state core.new.site) }
 {
     let reply = core.step(session, call)?;
     tell_reply(core, &reply, text)
@@ -71,6 +68,7 @@ fn answer<W: Site>(
 fn tell_reply<W: Site>(core: &mut Core<W>, reply: &Reply, text: &mut Vec<u8>) -> Result<(), Status>
     ensures tells { W.tells → TellsReply reply.now (W.state core.old.site) (W.state core.new.site) result }
     ensures rest { core.new ≡ record core.old { site = core.new.site } }
+    ensures works { W.tells → (m : Machine) → WorksFor W.state core.old m → WorksFor W.state core.new m }
     ensures cause { IfErr result (HasTellEnd (W.counts core.old.site) (W.counts core.new.site)) }
     ensures none_fell { NoneFell (W.counts core.old.site) (W.counts core.new.site) }
 {

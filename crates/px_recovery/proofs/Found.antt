@@ -1,5 +1,5 @@
 -- What an opening finds is on the site.
-use Rattle.std.proofs.Common.{◌≡◌, ℕ, ◌-◌, ◌^◌, ◌≤◌, max, true, List, [], ◌∷◌, length, map, take, refl, sym, ap, subst, ◌∙◌, arith}
+use Rattle.std.proofs.Common.{◌≡◌, ℕ, ◌-◌, ◌^◌, ◌≤◌, max, true, List, [], ◌∷◌, length, map, take, None, refl, sym, ap, subst, ◌∙◌, arith}
 use Rattle.std.proofs.lemmas.List.{take_all}
 use Rattle.px_site.specs.declared.name.FileName.TheVariants.{Restart as RestartFile}
 use Rattle.px_site.specs.Disk.{at_rest}
@@ -8,6 +8,7 @@ use Rattle.px_model.specs.declared.row.Row.{Row}
 use Rattle.px_model.specs.Machine.{Machine, fresh}
 use Rattle.px_told.specs.declared.change.Change.{Change}
 use Rattle.px_told.specs.Changes.{stored_number, greatest_stored}
+use Rattle.px_told.proofs.Changes.{greatest-least}
 use Rattle.px_told.specs.Commits.{commits_in}
 use Rattle.px_told.specs.Writes.{rows_in}
 use Rattle.px_restart.specs.declared.restart.Restart.{Restart}
@@ -23,10 +24,14 @@ use Rattle.px_logged.specs.Recounting.{Recounts}
 use Rattle.px_logged.proofs.Fitted.{fresh_fits}
 use Rattle.px_logged.proofs.Held.{commits_within}
 use Rattle.px_logged.proofs.Recounted.{fresh_recounts}
+use Rattle.px_standing.specs.Found.{Found, IsFound, found_in, machine_of}
 use Rattle.px_standing.specs.Standing.{Files, first_restart, second_restart, base_after, Finds}
 use Rattle.px_standing.proofs.Finding.{base_within, found_scan}
 use Rattle.px_standing.specs.Stored.{RestartsRest, Stored}
-use Rattle.px_recovery.specs.Opening.{opened_machine}
+use Rattle.px_core.specs.Core.{Kept}
+use Rattle.px_core.specs.Working.{StartsFrom}
+use Rattle.px_recovery.specs.Opening.{OpensTo, report_of}
+use Rattle.px_recovery.specs.declared.opening.OpenReport.{OpenReport}
 use Rattle.px_recovery.proofs.OneStore.{one_picked, one_scan}
 
 -- ---- the machine
@@ -35,19 +40,19 @@ more_from_more : (least most : ℕ) (changes : List Change) → least ≤ most �
 more_from_more least most [] below = below
 more_from_more least most (change ∷ changes) below = more_from_more (max least (stored_number change)) (max most (stored_number change)) changes (omega arith)
 
-pub opened_recounts : (restart : Restart) (changes : List Change) → Recounts changes (opened_machine restart changes)
+pub opened_recounts : (restart : Restart) (changes : List Change) → Recounts changes (machine_of (found_in restart changes))
 unfolding base_after
 opened_recounts restart changes = fresh_recounts changes restart.tables restart.short (base_after restart changes) (more_from_more 0 (restart.next - 1) changes (omega arith))
 
 pub opened_with : (restart : Restart) (changes : List Change) (m : Machine) (rows : List Row) (count base : ℕ) → rows ≡ rows_in changes → count ≡ commits_in changes → base ≡ base_after restart changes
-    → m ≡ fresh restart.tables restart.short rows count base → m ≡ opened_machine restart changes
+    → m ≡ fresh restart.tables restart.short rows count base → m ≡ machine_of (found_in restart changes)
 opened_with restart changes m rows count base rows_are count_is base_is is =
     is
     ∙ ap (λ (r : List Row). fresh restart.tables restart.short r count base) rows_are
     ∙ ap (λ (n : ℕ). fresh restart.tables restart.short (rows_in changes) n base) count_is
     ∙ ap (λ (n : ℕ). fresh restart.tables restart.short (rows_in changes) (commits_in changes) n) base_is
 
-pub opened_fits : (restart : Restart) (changes : List Change) (log : Log) (m : Machine) → m ≡ opened_machine restart changes → CanRestart restart → may_hold_all restart.tables 0 changes ≡ true → log.frames ≡ length changes → log.tables ≡ restart.tables → Fits m log
+pub opened_fits : (restart : Restart) (changes : List Change) (log : Log) (m : Machine) → m ≡ machine_of (found_in restart changes) → CanRestart restart → may_hold_all restart.tables 0 changes ≡ true → log.frames ≡ length changes → log.tables ≡ restart.tables → Fits m log
 opened_fits restart changes log m is can held count same =
     let shape = can.shape in
     let base = base_within restart.tables restart changes held (omega (arith, can.marks.next_to, can.marks.low_from, can.marks.low_to)) in
@@ -108,7 +113,7 @@ module _ (restart : Restart) (changes : List Change) (log : Log) (before middle 
   all_durable : take log.durable changes ≡ changes
   all_durable = take_all log.durable changes (omega (arith, read.durable, read.logged.count))
 
-  found_stored : (m : Machine) → m ≡ opened_machine restart changes → Finds before.content restart changes → Stored restart changes log m now
+  found_stored : (m : Machine) → m ≡ machine_of (found_in restart changes) → Finds before.content restart changes → Stored restart changes log m now
   found_stored m is finds =
       let did : Recounts changes m = subst (λ (x : Machine). Recounts changes x) (sym is) (opened_recounts restart changes) in
       record {
@@ -121,11 +126,37 @@ module _ (restart : Restart) (changes : List Change) (log : Log) (before middle 
         did = did;
       }
 
-  -- whatever is said to be found in the files
-  pub opened_stored : (m : Machine) → m ≡ opened_machine restart changes → (said : Restart) (others : List Change) → Finds before.content said others → Stored said others log m now
-  opened_stored m is said others finds =
-      let one : restart ≡ said = one_picked (first_restart before.content) (second_restart before.content) restart said read.picked finds.picked in
+  -- whatever is said to be found in the files is this
+  found_here : (found : Found) → IsFound found before.content → Finds before.content restart changes × (found_in restart changes ≡ found)
+  found_here found is_found =
+      let finds = is_found.finds in
+      let one : restart ≡ is_found.restart = one_picked (first_restart before.content) (second_restart before.content) restart is_found.restart read.picked finds.picked in
       let scan : Scans restart (before.content the_log) changes = subst (λ (files : Files). Scans restart (files the_log) changes) read.same read.scan in
-      let two : changes ≡ others = one_scan said (before.content the_log) changes others (subst (λ (r : Restart). Scans r (before.content the_log) changes) one scan) (found_scan before.content said others finds) in
-      let here : Finds before.content restart changes = subst (λ (cs : List Change). Finds before.content restart cs) (sym two) (subst (λ (r : Restart). Finds before.content r others) (sym one) finds) in
-      subst (λ (cs : List Change). Stored said cs log m now) two (subst (λ (r : Restart). Stored r changes log m now) one (found_stored m is here))
+      let two : changes ≡ is_found.changes =
+      one_scan is_found.restart (before.content the_log) changes is_found.changes (subst (λ (r : Restart). Scans r (before.content the_log) changes) one scan) (found_scan before.content is_found.restart is_found.changes finds) in (
+        subst (λ (cs : List Change). Finds before.content restart cs) (sym two) (subst (λ (r : Restart). Finds before.content r is_found.changes) (sym one) finds),
+        ap (λ (r : Restart). found_in r changes) one ∙ ap (found_in is_found.restart) two ∙ sym is_found.is,
+      )
+
+  starts : StartsFrom restart changes (machine_of (found_in restart changes))
+  unfolding fresh base_after
+  starts = record { tables = refl; short = refl; next = greatest-least (restart.next - 1) changes; base = omega arith }
+
+  -- the core of what was opened
+  pub opens_to : {W : Type 0} (state : W → State) (core : Kept W) (report : OpenReport) → core.machine ≡ machine_of (found_in restart changes) → core.log ≡ log → core.error ≡ None → state core.site ≡ now
+      → report ≡ report_of (found_in restart changes) → (found : Found) → IsFound found before.content → OpensTo state found core report
+  opens_to {W} state core report machine log_is whole site report_is found is_found =
+      let here = found_here found is_found in
+      let m : Machine = machine_of (found_in restart changes) in
+      subst (λ (f : Found). OpensTo state f core report) here.1 (record {
+        report_is = report_is;
+        frames = ap (λ (l : Log). l.frames) log_is ∙ read.logged.count;
+        works = record {
+          machine = machine;
+          whole = whole;
+          restart = restart;
+          changes = changes;
+          stored = subst (λ (s : State). Stored restart changes core.log m s) (sym site) (subst (λ (l : Log). Stored restart changes l m now) (sym log_is) (found_stored m refl here.0));
+          starts = starts;
+        };
+      })

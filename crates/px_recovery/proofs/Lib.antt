@@ -7,7 +7,6 @@ pub mod Fronts
 pub mod NewMoments
 pub mod NewStore
 pub mod OneStore
-pub mod Others
 pub mod Quiet
 pub mod Sound
 pub mod Syncing

@@ -121,20 +121,3 @@ module _ (tables short : ℕ) (before now : State) (can : CanMake before) (free 
     images = record { each = made_image };
     grew = subst (λ (f : FileState). AllByRecursion (IsBehind f.synced) f.pending) (sym (rests the_log refl)) tt;
   }
-
--- ---- where it may be made
-
--- a site of which nothing is touched, and which is free
-pub rest_can_make : (s : State) → ((name : FileName) → s.now.files name ≡ at_rest (s.content name)) → IsFree s.content → CanMake s
-rest_can_make s rests free = record {
-  others = λ name apart. rests name;
-  images = record {
-    each = λ image plain. inl (record {
-      first = λ restart at. free.no_restart.first restart (subst (λ (b : List ℕ). RestartAt b restart) (as_read image plain first_file) at);
-      second = λ restart at. free.no_restart.second restart (subst (λ (b : List ℕ). RestartAt b restart) (as_read image plain second_file) at);
-    });
-  };
-}
-  where
-    as_read : (image : Files) → IsPlainImage s.now image → (name : FileName) → image name ≡ s.content name
-    as_read image plain name = image_of_rest (s.content name) (image name) (subst (λ (f : FileState). IsImage f (image name)) (rests name) (plain.each name))

@@ -3,6 +3,7 @@ use Rattle.std.proofs.Common.{◌≡◌, ◌≢◌, ℕ, ◌+◌, true, List, []
 use Rattle.std.proofs.lemmas.Bool.{and_parts}
 use Rattle.px_told.specs.declared.change.Change.{Change}
 use Rattle.px_restart.specs.declared.restart.Restart.{Restart}
+use Rattle.px_restart.specs.Restart.{IsPicked}
 use Rattle.px_xlog.specs.Payload.{change_text, may_hold, may_hold_all}
 use Rattle.px_xlog.specs.Contents.{the_log, IsDamage, Scans}
 use Rattle.px_xlog.proofs.FramesOfChanges.{length-map-text}
@@ -39,8 +40,8 @@ no_damage restart bytes changes place scan damage = elim damage as (λ _. ⊥) [
     zero_first : (before : List Change) (payload : List ℕ) → ((change : Change) → may_hold restart.tables (length before) change ≡ true → payload ≢ change_text change) → (change : Change) → may_hold restart.tables (0 + length before) change ≡ true → payload ≢ change_text change
     zero_first before payload none change may = let same : 0 + length before ≡ length before = omega arith in none change (subst (λ (n : ℕ). may_hold restart.tables n change ≡ true) same may)
 
-no_absence : (files : Files) (restart : Restart) (changes : List Change) → Finds files restart changes → HasNoRestart files → ⊥
-no_absence files restart changes finds none = elim finds.picked as (λ _. ⊥) [
+pub no_absence : (files : Files) (restart : Restart) → IsPicked (first_restart files) (second_restart files) restart → HasNoRestart files → ⊥
+no_absence files restart picked none = elim picked as (λ _. ⊥) [
   | inl first ↦ none.first restart first.0
   | inr second ↦ none.second restart second.0
 ]
@@ -48,7 +49,7 @@ no_absence files restart changes finds none = elim finds.picked as (λ _. ⊥) [
 pub only_passing : (files : Files) (restart : Restart) (changes : List Change) (error : OpenError) → Finds files restart changes → HasRefusal files error → IsPassing error
 only_passing files restart changes OutOfMemory finds refusal = tt
 only_passing files restart changes (FaultOf fault) finds refusal = tt
-only_passing files restart changes NoStore finds refusal = absurd (no_absence files restart changes finds refusal)
+only_passing files restart changes NoStore finds refusal = absurd (no_absence files restart finds.picked refusal)
 only_passing files restart changes (Damaged file place) finds refusal =
     let one : refusal.0 ≡ restart = one_picked (first_restart files) (second_restart files) refusal.0 restart refusal.2 finds.picked in
     absurd (no_damage restart (files the_log) changes place (found_scan files restart changes finds) (subst (λ (r : Restart). IsDamage r (files the_log) place) one refusal.3))

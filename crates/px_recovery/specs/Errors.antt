@@ -1,8 +1,8 @@
 -- Why a store isn't made or opened, and what a refusal leaves.
-use Rattle.std.specs.Prelude.{◌≡◌, ◌≢◌, ⊤}
+use Rattle.std.specs.Prelude.{◌≡◌, ◌≢◌, ◌⊎◌, ⊤}
 use Rattle.px_site.specs.Cause.{Counts, Rose}
 use Rattle.px_site.specs.State.{State}
-use Rattle.px_site.specs.declared.error.Fault.TheVariants.{Tell}
+use Rattle.px_site.specs.declared.error.Fault.TheVariants.{Read, Write, Sync, List as ListFault, Tell}
 use Rattle.px_site.specs.declared.error.SiteError.{SiteError}
 use Rattle.px_site.specs.declared.error.SiteError.TheVariants.{OutOfMemory as Short, Fault as Failed}
 use Rattle.px_calls.specs.declared.status.Status.{Status}
@@ -24,6 +24,11 @@ abbrev pub IsOfFile : SiteError → Type 0
 IsOfFile Short = ⊤
 IsOfFile (Failed fault) = fault ≢ Tell
 
+-- a fault is one of a call that changes a file
+abbrev pub IsOfChange : SiteError → Type 0
+IsOfChange Short = ⊤
+IsOfChange (Failed fault) = (fault ≡ Write) ⊎ (fault ≡ Sync)
+
 -- ---- of make
 
 abbrev pub of_site : SiteError → MakeError
@@ -42,11 +47,13 @@ MakesFileFault OutOfMemory = ⊤
 MakesFileFault (FaultOf fault) = fault ≢ Tell
 MakesFileFault NotEmpty = ⊤
 
--- NotEmpty comes only where the site isn't free, and leaves it as it was
-abbrev pub RefusesUsed : State → State → MakeError → Type 0
-RefusesUsed old new OutOfMemory = ⊤
-RefusesUsed old new (FaultOf fault) = ⊤
-RefusesUsed old new NotEmpty = (IsFree old.content → ⊥) × (new ≡ old)
+-- NotEmpty comes only where the site isn't free; it leaves the site as it was, and so does a fault of a listing or a read
+abbrev pub LeavesUnmade : State → State → MakeError → Type 0
+LeavesUnmade old new OutOfMemory = ⊤
+LeavesUnmade old new (FaultOf Read) = new ≡ old
+LeavesUnmade old new (FaultOf ListFault) = new ≡ old
+LeavesUnmade old new (FaultOf fault) = ⊤
+LeavesUnmade old new NotEmpty = (IsFree old.content → ⊥) × (new ≡ old)
 
 -- ---- of open_store
 
@@ -73,6 +80,13 @@ IsPassing OpenShort = ⊤
 IsPassing (OpenFault fault) = ⊤
 IsPassing NoStore = ⊥
 IsPassing (Damaged file place) = ⊥
+
+-- where no store is: that is said, or memory was wanted, or a restart file couldn't be read
+abbrev pub IsAbsence : OpenError → Type 0
+IsAbsence OpenShort = ⊤
+IsAbsence (OpenFault fault) = fault ≡ Read
+IsAbsence NoStore = ⊤
+IsAbsence (Damaged file place) = ⊥
 
 -- a fault is one of a file's, and was counted
 abbrev pub CountsFault : Counts → Counts → OpenError → Type 0

@@ -7,7 +7,7 @@ ghost use Rattle.px_site.specs.declared.name.FileName.{FileName};
 ghost use Rattle.px_restart.specs.Restart.{CanRestart};
 ghost use Rattle.px_standing.specs.Images.{CanMake};
 ghost use Rattle.px_standing.specs.Settled.{Settled};
-ghost use Rattle.px_recovery.specs.Errors.{HasMakeCause, IsOfFile, MakesFileFault, RefusesUsed};
+ghost use Rattle.px_recovery.specs.Errors.{HasMakeCause, IsOfChange, IsOfFile, LeavesUnmade, MakesFileFault};
 ghost use Rattle.px_recovery.specs.Making.{HasNoOthers, IsFree, IsMade, IsWritten, StaysNew, WritesFirstFile, first_file, first_saved, precedes};
 
 use crate::MakeError;
@@ -30,7 +30,9 @@ pub fn make<W: Site>(site: &mut W, tables: u32, short: u32) -> Result<(), MakeEr
     ensures settled { W.tells → CanMake (W.state site.old) → OnOk result (Settled (W.state site.new) 0 []) }
     ensures moments { W.tells → CanMake (W.state site.old) → EachMoment (StaysNew (W.state site.old).now) (W.state site.old) (W.state site.new) }
     ensures first_alone { W.tells → EachMoment (WritesFirstFile (first_saved tables short) (W.state site.old)) (W.state site.old) (W.state site.new) }
-    ensures refused { W.tells → IfErr result (RefusesUsed (W.state site.old) (W.state site.new)) }
+    ensures others { W.tells → (name : FileName) → same_file first_file name ≡ false → (W.state site.new).content name ≡ (W.state site.old).content name }
+    ensures spared { W.tells → (IsFree (W.state site.old).content → ⊥) → W.state site.new ≡ W.state site.old }
+    ensures refused { W.tells → IfErr result (LeavesUnmade (W.state site.old) (W.state site.new)) }
     ensures none_fell { NoneFell (W.counts site.old) (W.counts site.new) }
     ensures again { W.tells → CanMake (W.state site.old) → OnErr result (CanMake (W.state site.new)) }
     ensures cause { IfErr result (HasMakeCause (W.counts site.old) (W.counts site.new)) }
@@ -106,7 +108,7 @@ fn write_restart<W: Site>(site: &mut W, restart: &Restart) -> Result<(), SiteErr
     ensures others { W.tells → (name : FileName) → same_file first_file name ≡ false → (W.state site.new).content name ≡ (W.state site.old).content name }
     ensures none_fell { NoneFell (W.counts site.old) (W.counts site.new) }
     ensures cause { IfErr result (HasCause (W.counts site.old) (W.counts site.new)) }
-    ensures own { IfErr result IsOfFile }
+    ensures own { IfErr result IsOfChange }
 {
     let bytes = restart_bytes(restart);
     site.write_at(FIRST_RESTART, 0, &bytes)?;

@@ -3,17 +3,15 @@ ghost use Rattle.std.specs.Prelude.{◌≡◌, ℕ, ◌^◌, ◌≤◌, true, Li
 ghost use Rattle.px_site.specs.Cause.{NoneFell};
 ghost use Rattle.px_site.specs.State.{EachMoment};
 ghost use Rattle.px_model.specs.declared.row.Row.{Row};
-ghost use Rattle.px_told.specs.declared.change.Change.{Change};
-ghost use Rattle.px_restart.specs.declared.restart.Restart.{Restart};
 ghost use Rattle.px_restart.specs.Restart.{CanRestart};
 ghost use Rattle.px_xlog.specs.Payload.{may_hold_all};
 ghost use Rattle.px_logged.specs.Fitting.{Fits};
+ghost use Rattle.px_standing.specs.Found.{Found, IsFound, found_in, machine_of};
 ghost use Rattle.px_standing.specs.Images.{KeepsStanding};
 ghost use Rattle.px_standing.specs.Settled.{Settled};
-ghost use Rattle.px_standing.specs.Standing.{Finds};
-ghost use Rattle.px_standing.specs.Stored.{Stored};
-ghost use Rattle.px_recovery.specs.Errors.{CountsFault, HasRefusal, IsPassing, KeepsContent};
-ghost use Rattle.px_recovery.specs.Opening.{OpensAs, TellsNothing, core_of, opened_machine, report_of, site_after};
+ghost use Rattle.px_standing.specs.Standing.{HasNoRestart};
+ghost use Rattle.px_recovery.specs.Errors.{CountsFault, HasRefusal, IsAbsence, IsPassing, KeepsContent};
+ghost use Rattle.px_recovery.specs.Opening.{OpensAs, OpensTo, TellsNothing, core_of, report_of, site_after};
 
 use crate::OpenError;
 use crate::changes::{base_of, commits_of, rows_of};
@@ -64,16 +62,15 @@ pub struct NotOpened<W: Site> {
 pub fn open_store<W: Site>(alloc: Global, site: W) -> Result<Opened<W>, NotOpened<W>>
     ensures whole { IfOk result (λ opened. opened.core.error ≡ None) }
     ensures opened { W.tells → IfOk result (λ opened. OpensAs (W.state site).content opened.core opened.report) }
-    ensures stored { W.tells → (restart : Restart) (changes : List Change) (commits : ℕ) (rows : List Row)
-        → Finds (W.state site).content restart changes → Settled (W.state site) commits rows
-        → IfOk result (λ opened. Stored restart changes opened.core.log opened.core.machine (W.state opened.core.site)) }
+    ensures stored { W.tells → (found : Found) → IsFound found (W.state site).content
+        → IfOk result (λ opened. OpensTo W.state found opened.core opened.report) }
     ensures moments { W.tells → (commits : ℕ) (rows : List Row) → Settled (W.state site) commits rows
         → EachMoment (KeepsStanding commits rows (W.state site).now) (W.state site) (W.state (site_after result)) }
     ensures quiet { W.tells → EachMoment (TellsNothing (W.state site).now) (W.state site) (W.state (site_after result)) }
     ensures told { W.tells → (W.state (site_after result)).now.told ≡ (W.state site).now.told }
     ensures refused { W.tells → IfErr result (λ refused. HasRefusal (W.state site).content refused.error) }
-    ensures sound { W.tells → (restart : Restart) (changes : List Change) → Finds (W.state site).content restart changes
-        → IfErr result (λ refused. IsPassing refused.error) }
+    ensures absent { W.tells → HasNoRestart (W.state site).content → IfErr result (λ refused. IsAbsence refused.error) }
+    ensures sound { W.tells → (found : Found) → IsFound found (W.state site).content → IfErr result (λ refused. IsPassing refused.error) }
     ensures kept { W.tells → IfErr result (λ refused. KeepsContent (W.state site) (W.state refused.site) refused.error) }
     ensures fault { IfErr result (λ refused. CountsFault (W.counts site) (W.counts refused.site) refused.error) }
     ensures none_fell { NoneFell (W.counts site) (W.counts (site_after result)) }
@@ -114,14 +111,15 @@ impl Parts {
 // over a log that was cut for the other one.
 fn open_parts<W: Site>(alloc: Global, site: &mut W) -> Result<Parts, OpenError>
     ensures opened { W.tells → IfOk result (λ parts. (over : W) → OpensAs (W.state site.old).content (core_of over parts) parts.report) }
-    ensures stored { W.tells → (restart : Restart) (changes : List Change) → Finds (W.state site.old).content restart changes
-        → IfOk result (λ parts. Stored restart changes parts.log parts.machine (W.state site.new)) }
+    ensures stored { W.tells → (found : Found) → IsFound found (W.state site.old).content
+        → IfOk result (λ parts. OpensTo W.state found (core_of site.new parts) parts.report) }
     ensures fits { IfOk result (λ parts. Fits parts.machine parts.log) }
     ensures numbered { IfOk result (λ parts. parts.log.frames ≤ 2 ^ 48) }
     ensures moments { W.tells → (commits : ℕ) (rows : List Row) → Settled (W.state site.old) commits rows
         → EachMoment (KeepsStanding commits rows (W.state site.old).now) (W.state site.old) (W.state site.new) }
     ensures quiet { W.tells → EachMoment (TellsNothing (W.state site.old).now) (W.state site.old) (W.state site.new) }
     ensures refused { W.tells → IfErr result (HasRefusal (W.state site.old).content) }
+    ensures absent { W.tells → HasNoRestart (W.state site.old).content → IfErr result IsAbsence }
     ensures kept { W.tells → IfErr result (KeepsContent (W.state site.old) (W.state site.new)) }
     ensures fault { IfErr result (CountsFault (W.counts site.old) (W.counts site.new)) }
     ensures none_fell { NoneFell (W.counts site.old) (W.counts site.new) }
@@ -147,8 +145,8 @@ fn parts_of(
     requires count { log.frames ≡ length changes.now }
     requires below { log.frames ≤ 2 ^ 48 }
     requires tables { log.tables ≡ restart.now.tables }
-    ensures machine { IfOk result (λ parts. parts.machine ≡ opened_machine restart.now changes.now) }
-    ensures report { IfOk result (λ parts. parts.report ≡ report_of restart.now changes.now) }
+    ensures machine { IfOk result (λ parts. parts.machine ≡ machine_of (found_in restart.now changes.now)) }
+    ensures report { IfOk result (λ parts. parts.report ≡ report_of (found_in restart.now changes.now)) }
     ensures log { IfOk result (λ parts. parts.log ≡ log) }
     ensures fits { IfOk result (λ parts. Fits parts.machine parts.log) }
 {

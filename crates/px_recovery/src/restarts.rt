@@ -1,6 +1,6 @@
 // The restart that counts, as the two restart files of a site read.
 ghost use Rattle.std.specs.Prelude.{◌≡◌, ℕ, List, IfOk, IfErr, IfSome, IfNone, OnOk};
-ghost use Rattle.px_site.specs.Cause.{HasCause, NoneFell};
+ghost use Rattle.px_site.specs.Cause.{HasCause, IsOwn, NoneFell};
 ghost use Rattle.px_site.specs.State.{EachMoment};
 ghost use Rattle.px_model.specs.declared.row.Row.{Row};
 ghost use Rattle.px_restart.specs.Restart.{CanRestart, IsPicked};
@@ -12,7 +12,7 @@ ghost use Rattle.px_recovery.specs.Errors.{IsOfFile};
 ghost use Rattle.px_recovery.specs.Opening.{TellsNothing};
 
 use px_restart::{RESTART_SIZE, Restart, pick};
-use px_site::{FileName, Site, SiteError};
+use px_site::{Fault, FileName, Site, SiteError};
 
 /// The restart file that `make` writes.
 pub(crate) const FIRST_RESTART: FileName = FileName::Restart(0);
@@ -29,6 +29,7 @@ pub(crate) fn read_restart<W: Site>(site: &mut W) -> Result<Option<Restart>, Sit
     ensures none_fell { NoneFell (W.counts site.old) (W.counts site.new) }
     ensures cause { IfErr result (HasCause (W.counts site.old) (W.counts site.new)) }
     ensures own { IfErr result IsOfFile }
+    ensures reads { IfErr result (IsOwn Fault.Read) }
 {
     let mut first = [0u8; RESTART_SIZE];
     let mut second = [0u8; RESTART_SIZE];

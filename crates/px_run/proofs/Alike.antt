@@ -5,15 +5,13 @@ use Rattle.px_site.specs.declared.name.FileName.{FileName}
 use Rattle.px_site.specs.Disk.{FileState}
 use Rattle.px_site.specs.State.{State, Moment}
 use Rattle.px_model.specs.declared.row.Row.{Row}
-use Rattle.px_told.specs.declared.change.Change.{Change}
-use Rattle.px_told.specs.Commits.{commits_in}
-use Rattle.px_told.specs.Writes.{rows_in}
-use Rattle.px_restart.specs.declared.restart.Restart.{Restart}
+use Rattle.px_model.specs.Machine.{Machine}
 use Rattle.px_xlog.specs.Contents.{the_log}
 use Rattle.px_xlog.specs.Written.{IsBehind}
-use Rattle.px_standing.specs.Standing.{Files, Finds}
+use Rattle.px_standing.specs.Standing.{Files}
 use Rattle.px_standing.specs.Images.{IsPlainImage, ImagesStandFor, ImagesAreNew}
-use Rattle.px_standing.specs.Settled.{Settled, IsSettledStore}
+use Rattle.px_standing.specs.Settled.{Settled}
+use Rattle.px_standing.specs.Found.{HoldsStore, IsFound}
 
 -- what a crash may leave depends on the files alone
 pub plain_alike : (a b : Moment) (image : Files) → b.files ≡ a.files → IsPlainImage b image → IsPlainImage a image
@@ -35,8 +33,12 @@ settled_alike a b commits rows content files settled = record {
   grew = subst (λ (f : FileName → FileState). AllByRecursion (IsBehind (f the_log).synced) (f the_log).pending) (sym files) settled.grew;
 }
 
-pub store_alike : (restart : Restart) (changes : List Change) (a b : State) → b.content ≡ a.content → b.now.files ≡ a.now.files → IsSettledStore restart changes a → IsSettledStore restart changes b
-store_alike restart changes a b content files store = record {
-  finds = subst (λ (c : Files). Finds c restart changes) (sym content) store.finds;
-  settled = settled_alike a b (commits_in changes) (rows_in changes) content files store.settled;
+pub store_alike : (m : Machine) (a b : State) → b.content ≡ a.content → b.now.files ≡ a.now.files → HoldsStore m a → HoldsStore m b
+store_alike m a b content files holds = record {
+  found = holds.found;
+  store = record {
+    is_found = subst (IsFound holds.found) (sym content) holds.store.is_found;
+    settled = settled_alike a b holds.found.commits holds.found.rows content files holds.store.settled;
+  };
+  has_all = holds.has_all;
 }

@@ -1,21 +1,17 @@
 -- The line that a call ends with, behind all else that it did.
 use Rattle.std.proofs.Common.{◌≡◌, ℕ, ◌-◌, List, [], ◌++◌, length, take, refl, sym, ap, ◌∙◌, inl, inr, arith}
 use Rattle.std.proofs.lemmas.List.{append-nil}
+use Rattle.px_site.specs.declared.error.Fault.TheVariants.{Read, Write, Sync, Remove, List as ListFault, Tell}
 use Rattle.px_site.specs.declared.name.FileName.{FileName}
 use Rattle.px_site.specs.Disk.{FileState}
 use Rattle.px_site.specs.State.{State, Moment, EachMoment}
-use Rattle.px_site.specs.Cause.{Counts, Rose}
+use Rattle.px_site.specs.Cause.{Counts, NoneFell, Rose}
 use Rattle.px_site.proofs.Moments.{then_moments, weaker_moments}
-use Rattle.px_calls.specs.declared.call.Call.{Call}
 use Rattle.px_calls.specs.declared.status.Status.{Status}
 use Rattle.px_calls.specs.declared.status.Status.TheVariants.{Done, Usage, BadLine, NoStore, NotEmpty, Damaged, DiskFault, SourceFault, OutputFault, OutOfMemory, LogFull, TooLong}
 use Rattle.px_calls.specs.Closing.{closing_line}
-use Rattle.px_told.specs.declared.change.Change.{Change}
-use Rattle.px_told.specs.Commits.{commits_in}
-use Rattle.px_told.specs.Writes.{rows_in}
-use Rattle.px_restart.specs.declared.restart.Restart.{Restart}
+use Rattle.px_standing.specs.Found.{Found, HoldsStore, IsSettledStore, machine_of}
 use Rattle.px_standing.specs.Images.{CanMake, ImagesAreNew, ImagesStandFor}
-use Rattle.px_standing.specs.Settled.{IsSettledStore}
 use Rattle.px_recovery.specs.Making.{first_file}
 use Rattle.px_recovery.proofs.Quiet.{last_moment}
 use Rattle.px_play.specs.Input.{script_of}
@@ -24,13 +20,14 @@ use Rattle.px_play.proofs.Acking.{nothing_taken}
 use Rattle.px_run.specs.Causes.{NoCountFell, TellsLineAlone}
 use Rattle.px_run.specs.Dumping.{DumpsRight, dump_pieces}
 use Rattle.px_run.specs.Making.{Made, MakeEnds, MakesRight, RefusesStore, made_pieces}
-use Rattle.px_run.specs.Running.{HasAll, RunsRight, log_after, run_pieces}
-use Rattle.px_run.specs.Told.{HasFilesOf, TellFailed, TellsInAll, last_text}
-use Rattle.px_run.specs.Working.{Closes, DumpsRows, MakesStore, OnlyTells, RefusesQuietly, RunsScript}
+use Rattle.px_run.specs.Running.{RunsRight, calls_made, machine_after, machine_left, run_pieces}
+use Rattle.px_run.specs.Told.{HasFilesOf, OnlyTells, TellFailed, TellsInAll, last_text}
+use Rattle.px_run.specs.Working.{Closes, DumpsRows, MakesStore, RefusesQuietly, RunsScript}
 use Rattle.px_run.proofs.Alike.{new_alike, settled_alike, stand_alike, store_alike}
+use Rattle.px_run.proofs.Complete.{first_wins}
 use Rattle.px_run.proofs.Dumped.{later_done}
 use Rattle.px_run.proofs.Pieces.{only_nothing, only_spoke, then_only, told_nothing}
-use Rattle.px_run.proofs.Scripted.{unless_broken}
+use Rattle.px_run.proofs.Scripts.{later_spared, on_short, unless_broken}
 
 -- ---- the line
 
@@ -140,7 +137,12 @@ make_ends : (tables short : ℕ) (a b c : State) (whole : ℕ) (status : Status)
 make_ends tables short a b c whole Done ends only = (ends.0, made_still tables short a b c ends.1 only)
 make_ends tables short a b c whole OutputFault ends only = (ends.0, made_still tables short a b c ends.1 only)
 make_ends tables short a b c whole NotEmpty ends only = (ends.0, refuses_still a b c ends.1 (files_still ends.1.files) only)
-make_ends tables short a b c whole (DiskFault fault) ends only = ends
+make_ends tables short a b c whole (DiskFault Read) ends only = (ends.0, then_only ends.1 only)
+make_ends tables short a b c whole (DiskFault ListFault) ends only = (ends.0, then_only ends.1 only)
+make_ends tables short a b c whole (DiskFault Write) ends only = ends
+make_ends tables short a b c whole (DiskFault Sync) ends only = ends
+make_ends tables short a b c whole (DiskFault Remove) ends only = ends
+make_ends tables short a b c whole (DiskFault Tell) ends only = ends
 make_ends tables short a b c whole OutOfMemory ends only = ends
 make_ends tables short a b c whole _ ends only = absurd ends
 
@@ -148,36 +150,33 @@ pub make_closed : (tables short : ℕ) (a b c : State) (x y z : Counts) (status 
 make_closed tables short a b c x y z status makes closes fell fault = record {
   whole = makes.whole;
   ends = make_ends tables short a b c makes.whole status makes.ends (only_closes closes);
+  spared = λ used. then_only (makes.spared used) (only_closes closes);
   told = told_in_all (made_pieces tables short) makes.whole status makes.told closes fell fault;
 }
 
-pub dump_closed : (restart : Restart) (changes : List Change) (a b c : State) (x y z : Counts) (status : Status) → DumpsRows restart changes a b status → Closes status b c y z → NoCountFell x y → OnOutput status (Rose x.tell_faults z.tell_faults)
-    → DumpsRight restart changes a c x z status
-dump_closed restart changes a b c x y z status dumps closes fell fault = record {
+pub dump_closed : (found : Found) (a b c : State) (x y z : Counts) (status : Status) → DumpsRows found a b status → Closes status b c y z → NoCountFell x y → OnOutput status (Rose x.tell_faults z.tell_faults) → DumpsRight found a c x z status
+dump_closed found a b c x y z status dumps closes fell fault = record {
   whole = dumps.tells.whole;
   ends = dumps.tells.ends;
-  told = told_in_all (dump_pieces (rows_in changes)) dumps.tells.whole status dumps.tells.told closes fell fault;
-  holds = λ store. later_done status (λ held. store_alike restart changes b c (only_closes closes).content (only_closes closes).files held) (dumps.holds store);
+  told = told_in_all (dump_pieces found.rows) dumps.tells.whole status dumps.tells.told closes fell fault;
+  holds = later_done status (store_alike (machine_of found) b c (only_closes closes).content (only_closes closes).files) dumps.holds;
 }
 
-all_still : (restart : Restart) (changes : List Change) (calls : List (ℕ × Call)) (b c : State) → OnlyTells b c → HasAll restart changes calls b → HasAll restart changes calls c
-all_still restart changes calls b c only has = record {
-  settled = store_alike restart (log_after restart changes calls) b c only.content only.files has.settled;
-  commits_are = has.commits_are;
-  rows_are = has.rows_are;
-}
-
-pub run_closed : (restart : Restart) (changes : List Change) (input left : List ℕ) (a b c : State) (x y z : Counts) (status : Status) → RunsScript restart changes input left a b status → Closes status b c y z → NoCountFell x y
-    → OnOutput status (Rose x.tell_faults z.tell_faults) → RunsRight restart changes input left a c x z status
-run_closed restart changes input left a b c x y z status runs closes fell fault = record {
+pub run_closed : (found : Found) (input left : List ℕ) (a b c : State) (x y z : Counts) (status : Status) → RunsScript found input left a b x y status → Closes status b c y z → NoCountFell x y → NoneFell y z → OnOutput status (Rose x.tell_faults z.tell_faults)
+    → RunsRight found input left a c x z status
+run_closed found input left a b c x y z status runs closes fell later fault = record {
   taken = runs.taken;
   in_order = runs.in_order;
   whole = runs.whole;
   read_before = runs.read_before;
   ends = runs.ends;
-  told = told_in_all (run_pieces restart changes (script_of input)) runs.whole status runs.told closes fell fault;
-  holds = unless_broken status (all_still restart changes (take (runs.whole - 1) (script_of input)) b c (only_closes closes)) runs.holds;
+  told = told_in_all (run_pieces found (script_of input)) runs.whole status runs.told closes fell fault;
+  holds = unless_broken status (store_alike (machine_left found (script_of input) runs.whole status) b c (only_closes closes).content (only_closes closes).files) runs.holds;
+  spared = on_short status (λ spared some.
+      later_spared (λ calls. HoldsStore (machine_after found calls) b) (λ calls. HoldsStore (machine_after found calls) c) (script_of input) (runs.whole - 1)
+      (λ calls. store_alike (machine_after found calls) b c (only_closes closes).content (only_closes closes).files) (omega arith) later.shorts (spared some)) runs.spared;
   numbered = runs.numbered;
+  first_committer_wins = first_wins found (take (calls_made status runs.whole) (script_of input));
 }
 
 -- ---- at each moment
@@ -187,8 +186,7 @@ new_closed {a} {b} {c} can moments only =
     let now : ImagesAreNew b.now = last_moment ImagesAreNew can.images moments in
     then_moments moments (weaker_moments (λ m has. new_alike b.now m has.same now) only.moments)
 
-pub same_closed : {a b c : State} (restart : Restart) (changes : List Change) → IsSettledStore restart changes a → EachMoment (ImagesStandFor (commits_in changes) (rows_in changes)) a b → OnlyTells b c
-    → EachMoment (ImagesStandFor (commits_in changes) (rows_in changes)) a c
-same_closed {a} {b} {c} restart changes store moments only =
-    let now = last_moment (ImagesStandFor (commits_in changes) (rows_in changes)) store.settled.images moments in
-    then_moments moments (weaker_moments (λ m has. stand_alike b.now m (commits_in changes) (rows_in changes) has.same now) only.moments)
+pub same_closed : {a b c : State} (found : Found) → IsSettledStore found a → EachMoment (ImagesStandFor found.commits found.rows) a b → OnlyTells b c → EachMoment (ImagesStandFor found.commits found.rows) a c
+same_closed {a} {b} {c} found store moments only =
+    let now = last_moment (ImagesStandFor found.commits found.rows) store.settled.images moments in
+    then_moments moments (weaker_moments (λ m has. stand_alike b.now m found.commits found.rows has.same now) only.moments)

@@ -12,16 +12,13 @@ use Rattle.px_calls.specs.Histories.{by, FirstCommitterWins, machine_after, stat
 use Rattle.px_calls.specs.Steps.{state_after}
 use Rattle.px_machine_laws.proofs.EveryHistory.{first_committer_wins}
 use Rattle.px_told.specs.declared.change.Change.{Change}
-use Rattle.px_told.specs.Commits.{commits_in}
-use Rattle.px_told.specs.Writes.{rows_in}
 use Rattle.px_script.specs.Grammar.{command_line}
 use Rattle.px_script.specs.Lines.{complete_after, rest_after, complete_lines, open_line, last_line, lines_at_end}
-use Rattle.px_restart.specs.declared.restart.Restart.{Restart}
 use Rattle.px_restart.proofs.Restarts.{restart_long}
 use Rattle.px_logged.specs.Logged.{logged, logged_by_all}
-use Rattle.px_standing.specs.Standing.{Files, first_restart, second_restart, base_after}
+use Rattle.px_standing.specs.Found.{Found, machine_of}
+use Rattle.px_standing.specs.Standing.{Files, first_restart, second_restart}
 use Rattle.px_recovery.specs.Making.{IsFree, first_file, second_file}
-use Rattle.px_recovery.specs.Opening.{opened_machine}
 use Rattle.px_play.specs.Input.{AreCommands, EndsAt, EndsInput, IsFirstBad, IsOverlong, script_of}
 use Rattle.px_play.specs.Playing.{StopsFull}
 use Rattle.px_play.proofs.Calls.{calls_nil, calls_none, calls_some, long_none}
@@ -54,13 +51,13 @@ complete_make command tables short a c x z reads reads_now NotEmpty empty none c
 complete_make command tables short a c x z reads reads_now (DiskFault fault) empty none cause makes = absurd (none.faults fault cause.2)
 complete_make command tables short a c x z reads reads_now _ empty none cause makes = absurd makes.ends
 
-pub complete_dump : (command : Option Command) (restart : Restart) (changes : List Change) (a c : State) (x z : Counts) (reads reads_now : ℕ) (status : Status) → NoneRose x z → HasStatusCause command x z reads reads_now status
-    → DumpsRight restart changes a c x z status → IsDoneOrShort status
-complete_dump command restart changes a c x z reads reads_now Done none cause dumps = tt
-complete_dump command restart changes a c x z reads reads_now OutOfMemory none cause dumps = tt
-complete_dump command restart changes a c x z reads reads_now OutputFault none cause dumps = absurd (none.tell_faults cause.1)
-complete_dump command restart changes a c x z reads reads_now (DiskFault fault) none cause dumps = absurd (none.faults fault cause.2)
-complete_dump command restart changes a c x z reads reads_now _ none cause dumps = absurd dumps.ends
+pub complete_dump : (command : Option Command) (found : Found) (a c : State) (x z : Counts) (reads reads_now : ℕ) (status : Status) → NoneRose x z → HasStatusCause command x z reads reads_now status
+    → DumpsRight found a c x z status → IsDoneOrShort status
+complete_dump command found a c x z reads reads_now Done none cause dumps = tt
+complete_dump command found a c x z reads reads_now OutOfMemory none cause dumps = tt
+complete_dump command found a c x z reads reads_now OutputFault none cause dumps = absurd (none.tell_faults cause.1)
+complete_dump command found a c x z reads reads_now (DiskFault fault) none cause dumps = absurd (none.faults fault cause.2)
+complete_dump command found a c x z reads reads_now _ none cause dumps = absurd dumps.ends
 
 -- ---- lines that are all commands
 
@@ -162,9 +159,9 @@ some_more : (changes : List Change) → changes ≢ [] → 0 < length changes
 some_more [] none = absurd (none refl)
 some_more (change ∷ changes) none = omega arith
 
-not_full : (restart : Restart) (changes : List Change) (input : List ℕ) (answered n : ℕ) → CanRun restart changes input → StopsFull changes (opened_machine restart changes) (script_of input) answered n → ⊥
-not_full restart changes input answered n can full =
-    let m : Machine = opened_machine restart changes in
+not_full : (found : Found) (input : List ℕ) (answered n : ℕ) → CanRun found input → StopsFull found.frames (machine_of found) (script_of input) answered n → ⊥
+not_full found input answered n can full =
+    let m : Machine = machine_of found in
     let script : List (ℕ × Call) = script_of input in
     let front : List (ℕ × Call) = take answered script in
     let back : List (ℕ × Call) = drop (answered + 1) script in
@@ -177,8 +174,6 @@ not_full restart changes input answered n can full =
       full.none_left,
       full.number,
       some_more one full.writes,
-      length-append changes (logged_by_all m script),
-      length-append changes (logged_by_all m front),
       ap length parts,
       length-append (logged_by_all m front) (one ++ rest),
       length-append one rest,
@@ -186,18 +181,18 @@ not_full restart changes input answered n can full =
 
 -- ---- `run`
 
-pub complete_run : (command : Option Command) (restart : Restart) (changes : List Change) (input left : List ℕ) (a c : State) (x z : Counts) (reads reads_now : ℕ) (status : Status) → CanRun restart changes input → NoneRose x z → (ReadRose reads reads_now → ⊥)
-    → HasStatusCause command x z reads reads_now status → EndsInput input left status → RunsRight restart changes input left a c x z status → IsDoneOrShort status
-complete_run command restart changes input left a c x z reads reads_now Done can none no_read cause ends runs = tt
-complete_run command restart changes input left a c x z reads reads_now OutOfMemory can none no_read cause ends runs = tt
-complete_run command restart changes input left a c x z reads reads_now OutputFault can none no_read cause ends runs = absurd (none.tell_faults cause.1)
-complete_run command restart changes input left a c x z reads reads_now (DiskFault fault) can none no_read cause ends runs = absurd (none.faults fault cause.2)
-complete_run command restart changes input left a c x z reads reads_now SourceFault can none no_read cause ends runs = absurd (no_read cause.1)
-complete_run command restart changes input left a c x z reads reads_now (BadLine k) can none no_read cause ends runs = absurd (none_is_bad input ends.taken left k ends.in_order can.commands ends.fits)
-complete_run command restart changes input left a c x z reads reads_now (LogFull n) can none no_read cause ends runs = absurd (not_full restart changes input (runs.whole - 1) n can runs.ends.1)
-complete_run command restart changes input left a c x z reads reads_now TooLong can none no_read cause ends runs =
+pub complete_run : (command : Option Command) (found : Found) (input left : List ℕ) (a c : State) (x z : Counts) (reads reads_now : ℕ) (status : Status) → CanRun found input → NoneRose x z → (ReadRose reads reads_now → ⊥)
+    → HasStatusCause command x z reads reads_now status → EndsInput input left status → RunsRight found input left a c x z status → IsDoneOrShort status
+complete_run command found input left a c x z reads reads_now Done can none no_read cause ends runs = tt
+complete_run command found input left a c x z reads reads_now OutOfMemory can none no_read cause ends runs = tt
+complete_run command found input left a c x z reads reads_now OutputFault can none no_read cause ends runs = absurd (none.tell_faults cause.1)
+complete_run command found input left a c x z reads reads_now (DiskFault fault) can none no_read cause ends runs = absurd (none.faults fault cause.2)
+complete_run command found input left a c x z reads reads_now SourceFault can none no_read cause ends runs = absurd (no_read cause.1)
+complete_run command found input left a c x z reads reads_now (BadLine k) can none no_read cause ends runs = absurd (none_is_bad input ends.taken left k ends.in_order can.commands ends.fits)
+complete_run command found input left a c x z reads reads_now (LogFull n) can none no_read cause ends runs = absurd (not_full found input (runs.whole - 1) n can runs.ends.1)
+complete_run command found input left a c x z reads reads_now TooLong can none no_read cause ends runs =
     absurd (omega (arith, can.below, ends.fits.0, ap length ends.in_order, length-append ends.taken left))
-complete_run command restart changes input left a c x z reads reads_now _ can none no_read cause ends runs = absurd runs.ends
+complete_run command found input left a c x z reads reads_now _ can none no_read cause ends runs = absurd runs.ends
 
 -- ---- the first committer
 
@@ -205,7 +200,7 @@ one_by_one : (m : Machine) (calls : List (ℕ × Call)) → machine_after m (map
 one_by_one m [] = refl
 one_by_one m (c ∷ calls) = one_by_one (state_after m c.0 c.1) calls
 
-pub first_wins : (restart : Restart) (changes : List Change) (calls : List (ℕ × Call)) → FirstCommitterWins (state_after_all (opened_machine restart changes) calls).ended
-first_wins restart changes calls =
-    subst (λ (m : Machine). FirstCommitterWins m.ended) (one_by_one (opened_machine restart changes) calls)
-    (first_committer_wins restart.tables restart.short (rows_in changes) (commits_in changes) (base_after restart changes) (map (λ c. by c.0 c.1) calls))
+pub first_wins : (found : Found) (calls : List (ℕ × Call)) → FirstCommitterWins (state_after_all (machine_of found) calls).ended
+first_wins found calls =
+    subst (λ (m : Machine). FirstCommitterWins m.ended) (one_by_one (machine_of found) calls)
+    (first_committer_wins found.tables found.short found.rows found.commits found.base (map (λ c. by c.0 c.1) calls))

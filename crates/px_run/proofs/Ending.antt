@@ -15,13 +15,10 @@ use Rattle.px_calls.specs.declared.status.Status.{Status}
 use Rattle.px_calls.specs.declared.status.Status.TheVariants.{Done, Usage, BadLine, NoStore, NotEmpty, Damaged, DiskFault, SourceFault, OutputFault, OutOfMemory, LogFull, TooLong}
 use Rattle.px_calls.specs.Closing.{closing_line}
 use Rattle.px_calls.specs.Texts.{numbered, reply_text}
-use Rattle.px_told.specs.declared.change.Change.{Change}
 use Rattle.px_script.specs.Lines.{open_line}
-use Rattle.px_restart.specs.declared.restart.Restart.{Restart}
-use Rattle.px_standing.specs.Settled.{IsSettledStore}
+use Rattle.px_standing.specs.Found.{Found, IsSettledStore, machine_of}
 use Rattle.px_standing.proofs.Standing.{last_moment}
-use Rattle.px_recovery.specs.Opening.{opened_machine}
-use Rattle.px_play.specs.Acknowledged.{HoldsAcknowledged, KeepsAcknowledged, acknowledged}
+use Rattle.px_play.specs.Acknowledged.{KeepsAcknowledged, acknowledged}
 use Rattle.px_play.specs.Input.{script_of}
 use Rattle.px_play.specs.Playing.{pieces_of, replies_of}
 use Rattle.px_play.specs.Told.{IsTold, joined, last_piece}
@@ -32,8 +29,7 @@ use Rattle.px_play.proofs.Words.{file_no_feed, no_feed_both}
 use Rattle.px_run.specs.Running.{machine_after, run_pieces}
 use Rattle.px_run.specs.Working.{Closes, RunsScript}
 use Rattle.px_run.proofs.Pieces.{spoke_moments}
-use Rattle.px_run.proofs.Quiet.{AddsNothing, KeepsTold, front_after, front_within, opening_holds, opening_quiet, quiet_keeps, told_kept}
-use Rattle.px_run.proofs.Scripted.{nothing_behind}
+use Rattle.px_run.proofs.Quiet.{AddsNothing, KeepsTold, front_after, front_within, opening_holds, opening_quiet, quiet_keeps, starting_told, told_kept}
 
 -- ---- the closing lines
 
@@ -93,9 +89,9 @@ replies_whole m calls = each (replies_of m calls)
     each [] = tt
     each (reply ∷ replies) = (reply_whole reply, each replies)
 
-pieces_whole : (restart : Restart) (changes : List Change) (calls : List (ℕ × Call)) → AllByRecursion IsWhole (run_pieces restart changes calls)
+pieces_whole : (found : Found) (calls : List (ℕ × Call)) → AllByRecursion IsWhole (run_pieces found calls)
 unfolding run_pieces
-pieces_whole restart changes calls = ((opening_quiet restart changes).whole, replies_whole (opened_machine restart changes) calls)
+pieces_whole found calls = ((opening_quiet found).whole, replies_whole (machine_of found) calls)
 
 last_none : (pieces : List (List ℕ)) (whole : ℕ) (status : Status) → (closing_line status ≡ []) ⊎ (last_piece pieces whole status ≡ [])
 unfolding closing_line
@@ -108,9 +104,9 @@ record Told (status : Status) (a b : State) : Type 0 where
   told : b.now.told ≡ a.now.told ++ so_far
   whole : (closing_line status ≡ []) ⊎ (open_line so_far ≡ [])
 
-told_by : (restart : Restart) (changes : List Change) (calls : List (ℕ × Call)) (whole : ℕ) (status : Status) (a b : State) → IsTold (run_pieces restart changes calls) whole status a b → Told status a b
-told_by restart changes calls whole status a b is =
-    let pieces : List (List ℕ) = run_pieces restart changes calls in
+told_by : (found : Found) (calls : List (ℕ × Call)) (whole : ℕ) (status : Status) (a b : State) → IsTold (run_pieces found calls) whole status a b → Told status a b
+told_by found calls whole status a b is =
+    let pieces : List (List ℕ) = run_pieces found calls in
     let replies : List ℕ = joined (take whole pieces) in
     let last : List ℕ = take is.front (last_piece pieces whole status) in
     record {
@@ -120,32 +116,30 @@ told_by restart changes calls whole status a b is =
         | inl none ↦ inl none
         | inr none ↦
             inr (ap (λ (l : List ℕ). open_line (replies ++ l)) (nothing_taken is.front (last_piece pieces whole status) none)
-            ∙ ap open_line (append-nil replies) ∙ joined_whole pieces (pieces_whole restart changes calls) whole)
+            ∙ ap open_line (append-nil replies) ∙ joined_whole pieces (pieces_whole found calls) whole)
       ];
     }
 
 -- ---- at each moment
 
-kept_last : (restart : Restart) (changes : List Change) (calls : List (ℕ × Call)) (a b : State) → IsSettledStore restart changes a → EachMoment (KeepsAcknowledged (machine_after restart changes calls) a.now.told) a b
-    → KeepsTold (machine_after restart changes calls) a.now.told b.now
-kept_last restart changes calls a b store moments =
-    let m : Machine = machine_after restart changes calls in
-    let first : KeepsTold m a.now.told a.now = record {
-      each = λ image plain. subst (λ (l : List ℕ). HoldsAcknowledged m l image) (sym (nothing_behind a.now.told)) (opening_holds restart changes calls image (store.settled.images.each image plain));
-    } in
+kept_last : (found : Found) (calls : List (ℕ × Call)) (a b : State) → IsSettledStore found a → EachMoment (KeepsAcknowledged (machine_after found calls) a.now.told) a b
+    → KeepsTold (machine_after found calls) a.now.told b.now
+kept_last found calls a b store moments =
+    let m : Machine = machine_after found calls in
+    let first : KeepsTold m a.now.told a.now = starting_told found calls a.now (λ image plain. opening_holds found calls image (store.settled.images.each image plain)) in
     elim (last_moment moments) as (λ _. KeepsTold m a.now.told b.now) [
       | inl same ↦ subst (KeepsTold m a.now.told) (sym same) first
       | inr keeps ↦ told_kept keeps
     ]
 
-pub acknowledged_closed : (restart : Restart) (changes : List Change) (input left : List ℕ) (status : Status) (a b c : State) (x y : Counts) → IsSettledStore restart changes a
-    → EachMoment (KeepsAcknowledged (machine_after restart changes (script_of input)) a.now.told) a b → RunsScript restart changes input left a b status → Closes status b c x y
-    → EachMoment (KeepsAcknowledged (machine_after restart changes (script_of input)) a.now.told) a c
-acknowledged_closed restart changes input left status a b c x y store moments runs closes =
-    let m : Machine = machine_after restart changes (script_of input) in
+pub acknowledged_closed : (found : Found) (input left : List ℕ) (status : Status) (a b c : State) (x0 x y : Counts) → IsSettledStore found a
+    → EachMoment (KeepsAcknowledged (machine_after found (script_of input)) a.now.told) a b → RunsScript found input left a b x0 x status → Closes status b c x y
+    → EachMoment (KeepsAcknowledged (machine_after found (script_of input)) a.now.told) a c
+acknowledged_closed found input left status a b c x0 x y store moments runs closes =
+    let m : Machine = machine_after found (script_of input) in
     let line : List ℕ = closing_line status in
-    let keeps = kept_last restart changes (script_of input) a b store moments in
-    let told = told_by restart changes (script_of input) runs.whole status a b runs.told in
+    let keeps = kept_last found (script_of input) a b store moments in
+    let told = told_by found (script_of input) runs.whole status a b runs.told in
     let adds : AddsNothing m told.so_far line = closing_adds m told.so_far status told.whole in
     then_moments moments (elim closes.is as (λ _. EachMoment (KeepsAcknowledged m a.now.told) b c) [
       | inl e ↦

@@ -10,5 +10,4 @@ pub mod Making
 pub mod Opening
 pub mod Pieces
 pub mod Quiet
-pub mod Scripted
 pub mod Scripts

@@ -6,7 +6,8 @@ use Rattle.px_site.proofs.Moments.{same_moment, then_moments, weaker_moments}
 use Rattle.px_calls.specs.declared.status.Status.{Status}
 use Rattle.px_calls.specs.declared.status.Status.TheVariants.{OutputFault, OutOfMemory}
 use Rattle.px_play.specs.Told.{IsTold, joined, last_piece}
-use Rattle.px_run.specs.Working.{OnlyTells, TellsPiece}
+use Rattle.px_run.specs.Working.{TellsPiece}
+use Rattle.px_run.specs.Told.{OnlyTells}
 
 -- ---- the moments of a `tell`
 

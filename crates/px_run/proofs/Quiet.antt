@@ -1,20 +1,16 @@
 -- What was acknowledged stays kept while a text is told that acknowledges nothing.
-use Rattle.std.proofs.Common.{◌≡◌, ℕ, List, [], ◌++◌, length, take, drop, codes, refl, sym, ap, subst, ◌∙◌, append_assoc, arith}
+use Rattle.std.proofs.Common.{◌≡◌, ℕ, ◌-◌, List, [], ◌++◌, length, take, drop, codes, refl, sym, ap, subst, ◌∙◌, append_assoc, arith}
 use Rattle.std.proofs.lemmas.List.{append-nil, drop_at, take_all}
 use Rattle.px_site.specs.State.{Moment, telling, told}
-use Rattle.px_model.specs.Machine.{Machine, commits, fresh}
+use Rattle.px_model.specs.declared.row.Row.{Row}
+use Rattle.px_model.specs.Machine.{Machine, commits, fresh, published}
 use Rattle.px_calls.specs.declared.call.Call.{Call}
 use Rattle.px_calls.specs.Texts.{numbered, opened_line}
-use Rattle.px_told.specs.declared.change.Change.{Change}
-use Rattle.px_told.specs.Commits.{commits_in}
-use Rattle.px_told.specs.Writes.{rows_in}
 use Rattle.px_script.specs.Lines.{complete_lines}
-use Rattle.px_restart.specs.declared.restart.Restart.{Restart}
 use Rattle.px_logged.specs.Recounting.{rows_now}
 use Rattle.px_standing.specs.Standing.{Files, StandsFor}
 use Rattle.px_standing.specs.Images.{IsPlainImage, KeepsStanding, HasCommitted}
-use Rattle.px_recovery.specs.Opening.{opened_machine}
-use Rattle.px_recovery.proofs.Found.{opened_recounts}
+use Rattle.px_standing.specs.Found.{Found, machine_of}
 use Rattle.px_play.specs.Acknowledged.{HoldsAcknowledged, KeepsAcknowledged, acknowledged}
 use Rattle.px_play.proofs.Acking.{holds_at, nothing_taken, out_behind}
 use Rattle.px_play.proofs.Parts.{open_nil}
@@ -74,52 +70,75 @@ quiet_keeps {m} {before} {a} {now} so_far text is adds keeps tells = record {
   told_later = (so_far ++ take tells.told.0 text, tells.told.1 ∙ ap (λ (l : List ℕ). l ++ take tells.told.0 text) is ∙ append_assoc before so_far (take tells.told.0 text));
 }
 
--- ---- an opening
+-- ---- the machine that starts
+
+before_is : (found : Found) → (machine_of found).before ≡ found.commits
+unfolding fresh
+before_is found = refl
+
+commits_are : (found : Found) → commits (machine_of found) ≡ found.commits
+unfolding fresh commits
+commits_are found = omega arith
+
+pub rows_are : (found : Found) → rows_now (machine_of found) ≡ found.rows
+unfolding fresh published
+rows_are found =
+    let none : commits (machine_of found) - (machine_of found).before ≡ 0 = omega (arith, before_is found, commits_are found) in
+    ap (published (machine_of found)) none
 
 ack_nothing : (n : ℕ) → acknowledged n [] ≡ n
 unfolding acknowledged complete_lines
 ack_nothing n = refl
 
-before_is : (restart : Restart) (changes : List Change) → (opened_machine restart changes).before ≡ commits_in changes
-unfolding fresh
-before_is restart changes = refl
+acked_first : (found : Found) → acknowledged (machine_of found).before [] ≡ commits (machine_of found)
+acked_first found = ack_nothing (machine_of found).before ∙ before_is found ∙ sym (commits_are found)
 
--- what stands for the commits before a run holds all that was acknowledged when nothing was told yet
-pub opening_holds : (restart : Restart) (changes : List Change) (calls : List (ℕ × Call)) (image : Files) → StandsFor image (commits_in changes) (rows_in changes) → HoldsAcknowledged (machine_after restart changes calls) [] image
-opening_holds restart changes calls image stands =
-    let m : Machine = opened_machine restart changes in
-    let did = opened_recounts restart changes in
-    let has : HasCommitted m image = subst (λ (n : ℕ). StandsFor image n (rows_now m)) (sym did.commits_are) (subst (λ rows. StandsFor image (commits_in changes) rows) (sym did.rows_are) stands) in
-    let none : acknowledged m.before [] ≡ commits m = ack_nothing m.before ∙ before_is restart changes ∙ sym did.commits_are in
-    holds_at m calls [] image has (omega (arith, none)) (omega (arith, none))
+-- ---- while nothing is acknowledged
 
-pub opening_keeps : (restart : Restart) (changes : List Change) (calls : List (ℕ × Call)) (a now : Moment) → KeepsStanding (commits_in changes) (rows_in changes) a now → KeepsAcknowledged (machine_after restart changes calls) a.told now
-opening_keeps restart changes calls a now keeps = record {
+-- what stands for all that was found holds all that was acknowledged when nothing was told yet
+pub starting_holds : (found : Found) (calls : List (ℕ × Call)) (image : Files) → HasCommitted (machine_of found) image → HoldsAcknowledged (machine_after found calls) [] image
+starting_holds found calls image has = holds_at (machine_of found) calls [] image has (omega (arith, acked_first found)) (omega (arith, acked_first found))
+
+pub opening_holds : (found : Found) (calls : List (ℕ × Call)) (image : Files) → StandsFor image found.commits found.rows → HoldsAcknowledged (machine_after found calls) [] image
+opening_holds found calls image stands =
+    let m : Machine = machine_of found in
+    starting_holds found calls image (subst (λ (n : ℕ). StandsFor image n (rows_now m)) (sym (commits_are found)) (subst (λ (rows : List Row). StandsFor image found.commits rows) (sym (rows_are found)) stands))
+
+pub opening_keeps : (found : Found) (calls : List (ℕ × Call)) (a now : Moment) → KeepsStanding found.commits found.rows a now → KeepsAcknowledged (machine_after found calls) a.told now
+opening_keeps found calls a now keeps = record {
   each = λ image out plain is_out.
       let nothing : drop (length a.told) out ≡ [] =
       out_behind a.told [] now.telling out now.told is_out.front is_out.text (keeps.told ∙ sym (append-nil a.told)) ∙ nothing_taken is_out.front now.telling keeps.telling in
-      subst (λ (l : List ℕ). HoldsAcknowledged (machine_after restart changes calls) l image) (sym nothing) (opening_holds restart changes calls image (keeps.images.each image plain));
+      subst (λ (l : List ℕ). HoldsAcknowledged (machine_after found calls) l image) (sym nothing) (opening_holds found calls image (keeps.images.each image plain));
   told_later = ([], keeps.told ∙ sym (append-nil a.told));
+}
+
+pub nothing_behind : (l : List ℕ) → drop (length l) l ≡ []
+nothing_behind l = ap (drop (length l)) (sym (append-nil l)) ∙ drop_at l [] (length l) refl
+
+-- before anything is told
+pub starting_told : (found : Found) (calls : List (ℕ × Call)) (m : Moment) → ((image : Files) → IsPlainImage m image → HoldsAcknowledged (machine_after found calls) [] image) → KeepsTold (machine_after found calls) m.told m
+starting_told found calls m holds = record {
+  each = λ image plain. subst (λ (l : List ℕ). HoldsAcknowledged (machine_after found calls) l image) (sym (nothing_behind m.told)) (holds image plain);
 }
 
 -- ---- texts
 
-pub opening_quiet : (restart : Restart) (changes : List Change) → IsQuiet (opening_line restart changes)
+pub opening_quiet : (found : Found) → IsQuiet (opening_line found)
 unfolding opened_line
-opening_quiet restart changes =
-    let first : List ℕ = numbered (codes "opened commits") (commits_in changes) in
-    let second : List ℕ = numbered (codes "rows") (length (rows_in changes)) in
-    let third : List ℕ = numbered (codes "redone") _ in
+opening_quiet found =
+    let first : List ℕ = numbered (codes "opened commits") found.commits in
+    let second : List ℕ = numbered (codes "rows") (length found.rows) in
+    let third : List ℕ = numbered (codes "redone") found.redone in
     line_quiet (first ++ codes " " ++ second ++ codes " " ++ third)
     (no_feed_both (first ++ codes " " ++ second ++ codes " ") third
     (no_feed_both (first ++ codes " " ++ second) (codes " ") (no_feed_both (first ++ codes " ") second (no_feed_both first (codes " ") (numbered_one (codes "opened commits") _ refl) refl) (numbered_one (codes "rows") _ refl)) refl)
     (numbered_one (codes "redone") _ refl)) refl
 
 -- all of the line acknowledges nothing
-pub opening_acknowledges : (restart : Restart) (changes : List Change) → acknowledged (opened_machine restart changes).before (opening_line restart changes) ≡ commits (opened_machine restart changes)
-opening_acknowledges restart changes =
-    let line : List ℕ = opening_line restart changes in
-    let m : Machine = opened_machine restart changes in
+pub opening_acknowledges : (found : Found) → acknowledged (machine_of found).before (opening_line found) ≡ commits (machine_of found)
+opening_acknowledges found =
+    let line : List ℕ = opening_line found in
+    let m : Machine = machine_of found in
     ap (acknowledged m.before) (sym (take_all (length line) line (omega arith)))
-    ∙ quiet_acknowledged m.before [] line (length line) open_nil (opening_quiet restart changes)
-    ∙ ack_nothing m.before ∙ before_is restart changes ∙ sym (opened_recounts restart changes).commits_are
+    ∙ quiet_acknowledged m.before [] line (length line) open_nil (opening_quiet found) ∙ acked_first found

@@ -1,17 +1,17 @@
 -- When each status may come, and what a refusal leaves.
 use Rattle.std.specs.Prelude.{◌≡◌, ◌≢◌, ℕ, ◌≤◌, true, false, List, [], Option, Some, None}
 use Rattle.px_site.specs.declared.error.Fault.{Fault}
-use Rattle.px_site.specs.declared.error.Fault.TheVariants.{Tell}
+use Rattle.px_site.specs.declared.error.Fault.TheVariants.{Read, Tell}
 use Rattle.px_site.specs.State.{State, EachMoment}
 use Rattle.px_site.specs.Cause.{Counts, Rose}
 use Rattle.px_source.specs.Source.{Rose as ReadRose}
 use Rattle.px_calls.specs.declared.status.Status.{Status}
 use Rattle.px_calls.specs.declared.status.Status.TheVariants.{Done, Usage, BadLine, NoStore, NotEmpty, Damaged, DiskFault, SourceFault, OutputFault, OutOfMemory, LogFull, TooLong}
-use Rattle.px_restart.specs.declared.restart.Restart.{Restart}
-use Rattle.px_restart.specs.Restart.{IsPicked}
-use Rattle.px_xlog.specs.Contents.{the_log, IsDamage}
+use Rattle.px_site.specs.declared.name.FileName.{FileName}
 use Rattle.px_xlog.specs.Log.{most_frames}
-use Rattle.px_standing.specs.Standing.{Files, first_restart, second_restart, HasNoRestart}
+use Rattle.px_standing.specs.Standing.{Files, HasNoRestart}
+use Rattle.px_recovery.specs.declared.error.OpenError.TheVariants.{Damaged as DamagedAt}
+use Rattle.px_recovery.specs.Errors.{HasRefusal}
 use Rattle.px_run.specs.declared.command.Command.{Command}
 use Rattle.px_run.specs.declared.command.Command.TheVariants.{Run}
 use Rattle.px_run.specs.Command.{opens}
@@ -40,23 +40,16 @@ pub record NoCountFell (old new : Counts) : Type 0 where
 
 -- ---- a store that isn't there, and one that is damaged
 
--- a refusal by what the files have, which are as they were
-pub record IsBadPlace (files files_now : Files) (place : ℕ) : Type 0 where
-  pub restart : Restart
-  pub picked : IsPicked (first_restart files) (second_restart files) restart
-  pub damage : IsDamage restart (files the_log) place
-  pub still : files_now ≡ files
-
--- where it is a refusal, the files show it
+-- where it is a refusal, the files show it, and are as they were
 abbrev pub ShowsRefusal : (files files_now : Files) → Status → Type 0
 ShowsRefusal files files_now NoStore = HasNoRestart files × (files_now ≡ files)
-ShowsRefusal files files_now (Damaged file place) = (file ≡ the_log) × IsBadPlace files files_now place
+ShowsRefusal files files_now (Damaged file place) = HasRefusal files (DamagedAt file place) × (files_now ≡ files)
 ShowsRefusal files files_now _ = Unit {0}
 
 -- this refusal, or what may come in its place
 abbrev pub IsNoStore : Status → Type 0
 IsNoStore NoStore = Unit {0}
-IsNoStore (DiskFault fault) = Unit {0}
+IsNoStore (DiskFault fault) = fault ≡ Read
 IsNoStore OutOfMemory = Unit {0}
 IsNoStore _ = ⊥
 
@@ -69,7 +62,7 @@ IsDamaged _ = ⊥
 -- what the files show is refused
 pub record RefusesBad (files : Files) (status : Status) : Type 0 where
   pub no_store : HasNoRestart files → IsNoStore status
-  pub damaged : (restart : Restart) (place : ℕ) → IsPicked (first_restart files) (second_restart files) restart → IsDamage restart (files the_log) place → IsDamaged status
+  pub damaged : (file : FileName) (place : ℕ) → HasRefusal files (DamagedAt file place) → IsDamaged status
 
 -- at a refusal its line alone is told
 abbrev pub TellsLineAlone : (old new : State) → (counts counts_now : Counts) → Status → Type 0

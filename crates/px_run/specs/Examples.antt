@@ -1,10 +1,14 @@
 -- A small run.
 use Rattle.std.specs.Prelude.{ℕ, List, [], ◌∷◌, ◌++◌, codes}
-use Rattle.px_restart.specs.declared.restart.Restart.{Restart}
-use Rattle.px_recovery.specs.Making.{first_saved}
+use Rattle.px_model.specs.declared.row.Row.{Row}
+use Rattle.px_standing.specs.Found.{Found}
 
-abbrev pub small : Restart
-small = first_saved 1 64
+-- what is found in a store that was just made
+abbrev pub small : Found
+small = record { tables = 1; short = 64; rows = []; commits = 0; base = 0; redone = 0; frames = 0 }
+
+abbrev pub small_row : Row
+small_row = record { table = 1; key = codes "k1"; tag = 7; body = codes "abc" }
 
 abbrev pub small_input : List ℕ
 small_input = codes "a begin" ++ 10 ∷ codes "a insert 1 6b31 7 616263" ++ 10 ∷ codes "a get 1 6b31" ++ 10 ∷ codes "a commit" ++ 10 ∷ []

@@ -1,5 +1,6 @@
 -- `make`: what it told, and what it left.
 use Rattle.std.specs.Prelude.{◌≡◌, ℕ, false, List, [], ◌∷◌}
+use Rattle.px_site.specs.declared.error.Fault.TheVariants.{Read, List as ListFault}
 use Rattle.px_site.specs.declared.name.FileName.{FileName}
 use Rattle.px_site.specs.Names.{same_file}
 use Rattle.px_site.specs.Disk.{at_rest}
@@ -11,7 +12,7 @@ use Rattle.px_calls.specs.Texts.{made_line}
 use Rattle.px_standing.specs.Images.{CanMake}
 use Rattle.px_standing.specs.Settled.{Settled}
 use Rattle.px_recovery.specs.Making.{IsFree, first_file, first_saved, with_restart}
-use Rattle.px_run.specs.Told.{HasFilesOf, TellsInAll}
+use Rattle.px_run.specs.Told.{HasFilesOf, OnlyTells, TellsInAll}
 
 abbrev pub made_pieces : (tables short : ℕ) → List (List ℕ)
 made_pieces tables short = made_line tables short ∷ []
@@ -35,11 +36,13 @@ pub record RefusesStore (old new : State) : Type 0 where
   pub content : new.content ≡ old.content
   pub files : EachMoment (HasFilesOf old.now) old new
 
--- the line was told whole, or not, by the status
+-- the line was told whole, or not, by the status; where a read or a listing failed, all is as it was
 abbrev pub MakeEnds : (tables short : ℕ) → (old new : State) → (whole : ℕ) → Status → Type 0
 MakeEnds tables short old new whole Done = (whole ≡ 1) × Made tables short old new
 MakeEnds tables short old new whole OutputFault = (whole ≡ 0) × Made tables short old new
 MakeEnds tables short old new whole NotEmpty = (whole ≡ 0) × RefusesStore old new
+MakeEnds tables short old new whole (DiskFault Read) = (whole ≡ 0) × OnlyTells old new
+MakeEnds tables short old new whole (DiskFault ListFault) = (whole ≡ 0) × OnlyTells old new
 MakeEnds tables short old new whole (DiskFault fault) = whole ≡ 0
 MakeEnds tables short old new whole OutOfMemory = whole ≡ 0
 MakeEnds tables short old new whole _ = ⊥
@@ -47,4 +50,6 @@ MakeEnds tables short old new whole _ = ⊥
 pub record MakesRight (tables short : ℕ) (old new : State) (counts counts_now : Counts) (status : Status) : Type 0 where
   pub whole : ℕ
   pub ends : MakeEnds tables short old new whole status
+  -- a site that isn't free is as it was
+  pub spared : (IsFree old.content → ⊥) → OnlyTells old new
   pub told : TellsInAll (made_pieces tables short) whole status old new counts counts_now

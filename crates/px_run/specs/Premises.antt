@@ -5,15 +5,13 @@ use Rattle.px_site.specs.declared.name.FileName.{FileName}
 use Rattle.px_site.specs.Cause.{Counts, Rose}
 use Rattle.px_calls.specs.declared.status.Status.{Status}
 use Rattle.px_calls.specs.declared.status.Status.TheVariants.{Done, OutOfMemory}
-use Rattle.px_told.specs.declared.change.Change.{Change}
 use Rattle.px_script.specs.Lines.{lines_at_end}
 use Rattle.px_script.specs.Progress.{longest_input}
-use Rattle.px_restart.specs.declared.restart.Restart.{Restart}
 use Rattle.px_xlog.specs.Log.{most_frames}
+use Rattle.px_standing.specs.Found.{Found, machine_of}
 use Rattle.px_standing.specs.Standing.{Files}
-use Rattle.px_recovery.specs.Opening.{opened_machine}
 use Rattle.px_play.specs.Input.{AreCommands, script_of}
-use Rattle.px_play.specs.Playing.{changes_after}
+use Rattle.px_play.specs.Playing.{frames_after}
 
 -- no call of the site failed
 pub record NoneRose (old new : Counts) : Type 0 where
@@ -31,7 +29,7 @@ abbrev pub IsEmpty : Files → Type 0
 IsEmpty files = (name : FileName) → files name ≡ []
 
 -- an input that `run` can answer whole
-pub record CanRun (restart : Restart) (changes : List Change) (input : List ℕ) : Type 0 where
+pub record CanRun (found : Found) (input : List ℕ) : Type 0 where
   pub commands : AreCommands (lines_at_end input)
   pub below : length input < longest_input
-  pub numbers : length (changes_after changes (opened_machine restart changes) (script_of input)) ≤ most_frames
+  pub numbers : frames_after found.frames (machine_of found) (script_of input) ≤ most_frames

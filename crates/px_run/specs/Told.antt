@@ -1,6 +1,6 @@
 -- What a call of the program tells: pieces in order, and then the line that it ends with.
 use Rattle.std.specs.Prelude.{◌≡◌, ◌⊎◌, ℕ, ◌<◌, List, ◌++◌, length, take}
-use Rattle.px_site.specs.State.{State, Moment}
+use Rattle.px_site.specs.State.{State, Moment, EachMoment}
 use Rattle.px_site.specs.Cause.{Counts, Rose}
 use Rattle.px_calls.specs.declared.status.Status.{Status}
 use Rattle.px_calls.specs.declared.status.Status.TheVariants.{OutputFault}
@@ -10,6 +10,12 @@ use Rattle.px_play.specs.Told.{joined, last_piece}
 -- the files, and all that a crash may leave of them, are as before
 pub record HasFilesOf (before m : Moment) : Type 0 where
   pub same : m.files ≡ before.files
+
+-- nothing was done but to tell
+pub record OnlyTells (old new : State) : Type 0 where
+  pub content : new.content ≡ old.content
+  pub files : new.now.files ≡ old.now.files
+  pub moments : EachMoment (HasFilesOf old.now) old new
 
 abbrev pub TellFailed : Counts → Counts → Type 0
 TellFailed old new = Rose old.tell_faults new.tell_faults ⊎ Rose old.shorts new.shorts

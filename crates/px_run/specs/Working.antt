@@ -1,27 +1,23 @@
 -- What is done before the line that a call ends with, for private clauses.
-use Rattle.std.specs.Prelude.{◌≡◌, ◌⊎◌, ⊤, ℕ, ◌+◌, ◌-◌, ◌<◌, ◌≤◌, List, [], ◌++◌, length, map, take, Result, Ok, Err}
-use Rattle.px_site.specs.State.{State, EachMoment, spoke}
+use Rattle.std.specs.Prelude.{◌≡◌, ◌⊎◌, ⊤, ℕ, ◌+◌, ◌-◌, ◌<◌, ◌≤◌, List, ◌++◌, length, map, take, Result, Ok, Err}
+use Rattle.px_site.specs.State.{State, spoke}
 use Rattle.px_site.specs.Cause.{Counts, Rose}
 use Rattle.px_model.specs.declared.row.Row.{Row}
+use Rattle.px_model.specs.Machine.{Machine}
 use Rattle.px_calls.specs.declared.status.Status.{Status}
 use Rattle.px_calls.specs.declared.status.Status.TheVariants.{Done, Usage, NoStore, Damaged, OutputFault, OutOfMemory}
 use Rattle.px_calls.specs.Closing.{closing_line}
 use Rattle.px_calls.specs.Texts.{row_line}
-use Rattle.px_told.specs.declared.change.Change.{Change}
-use Rattle.px_told.specs.Writes.{rows_in}
 use Rattle.px_script.specs.Lines.{lines_at_end}
-use Rattle.px_restart.specs.declared.restart.Restart.{Restart}
-use Rattle.px_xlog.specs.Log.{most_frames}
-use Rattle.px_logged.specs.Logged.{logged_by_all}
-use Rattle.px_standing.specs.Settled.{IsSettledStore}
-use Rattle.px_recovery.specs.Opening.{opened_machine}
+use Rattle.px_standing.specs.Found.{Found, HoldsStore, machine_of}
+use Rattle.px_recovery.specs.Making.{IsFree}
 use Rattle.px_play.specs.Input.{script_of}
-use Rattle.px_play.specs.Playing.{UnlessBroken}
+use Rattle.px_play.specs.Playing.{AreNumbered, IsSpared, OnShort, UnlessBroken}
 use Rattle.px_play.specs.Told.{joined, IsTold}
 use Rattle.px_run.specs.Dumping.{DumpEnds, OnDone, dump_pieces}
 use Rattle.px_run.specs.Making.{MakeEnds, made_pieces}
-use Rattle.px_run.specs.Running.{HasAll, RunEnds, log_after, run_pieces}
-use Rattle.px_run.specs.Told.{HasFilesOf, TellFailed}
+use Rattle.px_run.specs.Running.{RunEnds, calls_made, machine_after, machine_left, run_pieces}
+use Rattle.px_run.specs.Told.{OnlyTells, TellFailed}
 
 -- ---- one piece
 
@@ -43,12 +39,6 @@ pub record Closes (status : Status) (old new : State) (counts counts_now : Count
   pub is : (new ≡ spoke (closing_line status) (take front (closing_line status)) old) ⊎ ((new ≡ old) × (front ≡ 0))
   pub cut : front < length (closing_line status) → TellFailed counts counts_now
 
--- nothing was done but to tell
-pub record OnlyTells (old new : State) : Type 0 where
-  pub content : new.content ≡ old.content
-  pub files : new.now.files ≡ old.now.files
-  pub moments : EachMoment (HasFilesOf old.now) old new
-
 -- ---- a refusal
 
 -- nothing is told, and nothing was done where no store is
@@ -63,6 +53,7 @@ RefusesQuietly old new _ = ⊤
 pub record MakesStore (tables short : ℕ) (old new : State) (status : Status) : Type 0 where
   pub whole : ℕ
   pub ends : MakeEnds tables short old new whole status
+  pub spared : (IsFree old.content → ⊥) → OnlyTells old new
   pub told : IsTold (made_pieces tables short) whole status old new
 
 abbrev pub HasDumpCause : Counts → Counts → Status → Type 0
@@ -79,17 +70,22 @@ pub record TellsRows (rows : List Row) (old new : State) (status : Status) : Typ
   pub ends : DumpEnds rows whole status
   pub told : IsTold (dump_pieces rows) whole status old new
 
-pub record DumpsRows (restart : Restart) (changes : List Change) (old new : State) (status : Status) : Type 0 where
-  pub tells : TellsRows (rows_in changes) old new status
-  pub holds : IsSettledStore restart changes old → OnDone status (IsSettledStore restart changes new)
+pub record DumpsRows (found : Found) (old new : State) (status : Status) : Type 0 where
+  pub tells : TellsRows found.rows old new status
+  pub holds : OnDone status (HoldsStore (machine_of found) new)
 
-pub record RunsScript (restart : Restart) (changes : List Change) (input left : List ℕ) (old new : State) (status : Status) : Type 0 where
+-- what `run` told, and what holds of the machine after the calls
+pub record RunsBy (Holds : Machine → Type 0) (found : Found) (input left : List ℕ) (old new : State) (counts counts_now : Counts) (status : Status) : Type 0 where
   pub taken : List ℕ
   pub in_order : input ≡ taken ++ left
   pub whole : ℕ
   pub read_before : whole ≤ 1 + length (lines_at_end taken)
-  pub ends : RunEnds restart changes (script_of input) taken whole status
-  pub told : IsTold (run_pieces restart changes (script_of input)) whole status old new
-  pub holds : UnlessBroken status (HasAll restart changes (take (whole - 1) (script_of input)) new)
-  pub numbered : (logged_by_all (opened_machine restart changes) (take (whole - 1) (script_of input)) ≡ [])
-      ⊎ (length (log_after restart changes (take (whole - 1) (script_of input))) ≤ most_frames)
+  pub ends : RunEnds found (script_of input) taken whole status
+  pub told : IsTold (run_pieces found (script_of input)) whole status old new
+  pub holds : UnlessBroken status (Holds (machine_left found (script_of input) whole status))
+  pub spared : OnShort status (1 ≤ whole → IsSpared (λ calls. Holds (machine_after found calls)) (script_of input) (whole - 1) counts counts_now)
+  pub numbered : AreNumbered found.frames (machine_of found) (take (calls_made status whole) (script_of input))
+
+-- the site is a store that has all that this machine did
+abbrev pub RunsScript : Found → (input left : List ℕ) → (old new : State) → (counts counts_now : Counts) → Status → Type 0
+RunsScript found input left old new counts counts_now status = RunsBy (λ m. HoldsStore m new) found input left old new counts counts_now status

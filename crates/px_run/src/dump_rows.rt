@@ -1,19 +1,17 @@
 // `dump`.
-ghost use Rattle.std.specs.Prelude.{◌≡◌, ℕ, List, None, Some, IfErr};
+ghost use Rattle.std.specs.Prelude.{◌≡◌, None, Some, IfErr};
 ghost use Rattle.px_site.specs.Cause.{NoneFell};
 ghost use Rattle.px_site.specs.State.{EachMoment};
+ghost use Rattle.px_model.specs.Machine.{Machine};
 ghost use Rattle.px_calls.specs.Texts.{row_line};
-ghost use Rattle.px_told.specs.declared.change.Change.{Change};
-ghost use Rattle.px_told.specs.Commits.{commits_in};
-ghost use Rattle.px_told.specs.Writes.{rows_in};
-ghost use Rattle.px_restart.specs.declared.restart.Restart.{Restart};
 ghost use Rattle.px_logged.specs.Recounting.{rows_now};
 ghost use Rattle.px_standing.specs.Images.{ImagesStandFor};
-ghost use Rattle.px_standing.specs.Settled.{IsSettledStore};
+ghost use Rattle.px_standing.specs.Found.{Found, IsFound, IsSettledStore};
+ghost use Rattle.px_core.specs.Working.{WorksFor};
 ghost use Rattle.px_run.specs.Causes.{HasStatusCause, RefusesBad, ShowsRefusal};
-ghost use Rattle.px_run.specs.Dumping.{ShowsStore};
-ghost use Rattle.px_run.specs.Working.{DumpsRows, HasDumpCause, HasTellCause, OnlyTells, RefusesQuietly, TellsLines, TellsPiece, TellsRows};
+ghost use Rattle.px_run.specs.Working.{DumpsRows, HasDumpCause, HasTellCause, RefusesQuietly, TellsLines, TellsPiece, TellsRows};
 ghost use Rattle.px_run.specs.declared.command.Command.{Command};
+ghost use Rattle.px_run.specs.Told.{OnlyTells};
 
 use crate::ended::Ended;
 use crate::telling::tell;
@@ -30,10 +28,10 @@ pub(crate) fn dump_rows<W: Site>(alloc: Global, site: W) -> Ended<W>
     ensures shown { W.tells → ShowsRefusal (W.state site).content (W.state result.site).content result.status }
     ensures refused { W.tells → RefusesBad (W.state site).content result.status }
     ensures quiet { W.tells → RefusesQuietly (W.state site) (W.state result.site) result.status }
-    ensures dumps { W.tells → (restart : Restart) (changes : List Change) → ShowsStore restart changes (W.state site).content
-        → DumpsRows restart changes (W.state site) (W.state result.site) result.status }
-    ensures moments { W.tells → (restart : Restart) (changes : List Change) → IsSettledStore restart changes (W.state site)
-        → EachMoment (ImagesStandFor (commits_in changes) (rows_in changes)) (W.state site) (W.state result.site) }
+    ensures dumps { W.tells → (found : Found) → IsFound found (W.state site).content
+        → DumpsRows found (W.state site) (W.state result.site) result.status }
+    ensures moments { W.tells → (found : Found) → IsSettledStore found (W.state site)
+        → EachMoment (ImagesStandFor found.commits found.rows) (W.state site) (W.state result.site) }
     ensures none_fell { NoneFell (W.counts site) (W.counts result.site) }
 {
     match open_store(alloc, site) {
@@ -54,9 +52,10 @@ pub(crate) fn dump_rows<W: Site>(alloc: Global, site: W) -> Ended<W>
 fn tell_rows<W: Site>(alloc: Global, core: &mut Core<W>) -> Status
     requires { core.old.error ≡ None }
     ensures cause { HasDumpCause (W.counts core.old.site) (W.counts core.new.site) result }
-    ensures tells { W.tells → TellsRows (rows_now core.old.machine) (W.state core.old.site) (W.state core.new.site) result }
+    ensures tells { W.tells → (m : Machine) → WorksFor W.state core.old m → TellsRows (rows_now m) (W.state core.old.site) (W.state core.new.site) result }
     ensures only { W.tells → OnlyTells (W.state core.old.site) (W.state core.new.site) }
     ensures rest { core.new ≡ record core.old { site = core.new.site } }
+    ensures works { W.tells → (m : Machine) → WorksFor W.state core.old m → WorksFor W.state core.new m }
     ensures none_fell { NoneFell (W.counts core.old.site) (W.counts core.new.site) }
 {
     let Ok(rows) = core.rows() else {
@@ -78,6 +77,7 @@ fn tell_each<W: Site>(alloc: Global, core: &mut Core<W>, rows: &[Row]) -> Result
     ensures tells { W.tells → TellsLines rows.now (W.state core.old.site) (W.state core.new.site) result }
     ensures only { W.tells → OnlyTells (W.state core.old.site) (W.state core.new.site) }
     ensures rest { core.new ≡ record core.old { site = core.new.site } }
+    ensures works { W.tells → (m : Machine) → WorksFor W.state core.old m → WorksFor W.state core.new m }
     ensures none_fell { NoneFell (W.counts core.old.site) (W.counts core.new.site) }
 {
     let mut text = Vec::new(alloc);
@@ -91,6 +91,7 @@ fn tell_each<W: Site>(alloc: Global, core: &mut Core<W>, rows: &[Row]) -> Result
 fn tell_row<W: Site>(core: &mut Core<W>, row: &Row, text: &mut Vec<u8>) -> Result<(), Status>
     ensures tells { W.tells → TellsPiece (row_line row.now) (W.state core.old.site) (W.state core.new.site) result }
     ensures rest { core.new ≡ record core.old { site = core.new.site } }
+    ensures works { W.tells → (m : Machine) → WorksFor W.state core.old m → WorksFor W.state core.new m }
     ensures cause { IfErr result (HasTellCause (W.counts core.old.site) (W.counts core.new.site)) }
     ensures none_fell { NoneFell (W.counts core.old.site) (W.counts core.new.site) }
 {

@@ -3,12 +3,13 @@ ghost use Rattle.std.specs.Prelude.{◌≡◌, [], ◌∷◌, ◌++◌, codes, S
 ghost use Rattle.px_play.specs.Acknowledged.{acknowledged};
 ghost use Rattle.px_play.specs.Input.{script_of};
 ghost use Rattle.px_play.specs.Told.{joined};
-ghost use Rattle.px_told.specs.Commits.{commits_in};
-ghost use Rattle.px_told.specs.Writes.{rows_in};
+ghost use Rattle.px_model.specs.Machine.{commits};
 ghost use Rattle.px_logged.specs.Recounting.{rows_now};
+ghost use Rattle.px_standing.specs.Found.{machine_of};
+ghost use Rattle.px_play.specs.Playing.{frames_after};
 ghost use Rattle.px_run.specs.Command.{command_of};
-ghost use Rattle.px_run.specs.Examples.{small, small_input, small_told};
-ghost use Rattle.px_run.specs.Running.{run_pieces, log_after, machine_after};
+ghost use Rattle.px_run.specs.Examples.{small, small_input, small_row, small_told};
+ghost use Rattle.px_run.specs.Running.{run_pieces, machine_after};
 ghost use Rattle.px_run.specs.declared.command.Command.{Command};
 
 pub fn what_words_are()
@@ -20,9 +21,10 @@ pub fn what_words_are()
 {}
 
 pub fn a_small_run()
-    ensures told { joined (run_pieces small [] (script_of small_input)) ≡ small_told }
-    ensures commits { commits_in (log_after small [] (script_of small_input)) ≡ 1 }
-    ensures rows { rows_in (log_after small [] (script_of small_input)) ≡ rows_now (machine_after small [] (script_of small_input)) }
+    ensures told { joined (run_pieces small (script_of small_input)) ≡ small_told }
+    ensures frames { frames_after small.frames (machine_of small) (script_of small_input) ≡ 2 }
+    ensures commits { commits (machine_after small (script_of small_input)) ≡ 1 }
+    ensures rows { rows_now (machine_after small (script_of small_input)) ≡ small_row ∷ [] }
     ensures acknowledged { acknowledged 0 small_told ≡ 1 }
     ensures not_yet { acknowledged 0 (codes "opened commits 0 rows 0 redone 0" ++ 10 ∷ codes "committed 1") ≡ 0 }
 {}

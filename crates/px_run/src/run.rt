@@ -1,20 +1,15 @@
 // The program's public call.
-ghost use Rattle.std.specs.Prelude.{◌≡◌, ◌≢◌, ◌≤◌, ℕ, true, List, None, Some, IfSome};
+ghost use Rattle.std.specs.Prelude.{◌≡◌, ◌≢◌, ◌≤◌, ℕ, true, None, Some, IfSome};
 ghost use Rattle.px_site.specs.Cause.{NoneFell};
 ghost use Rattle.px_site.specs.State.{EachMoment};
 ghost use Rattle.px_source.specs.Source.{Rose as ReadRose};
-ghost use Rattle.px_calls.specs.Histories.{FirstCommitterWins};
-ghost use Rattle.px_told.specs.declared.change.Change.{Change};
-ghost use Rattle.px_told.specs.Commits.{commits_in};
-ghost use Rattle.px_told.specs.Writes.{rows_in};
-ghost use Rattle.px_restart.specs.declared.restart.Restart.{Restart};
 ghost use Rattle.px_standing.specs.Images.{CanMake, ImagesAreNew, ImagesStandFor};
-ghost use Rattle.px_standing.specs.Settled.{IsSettledStore};
+ghost use Rattle.px_standing.specs.Found.{Found, IsFound, IsSettledStore};
 ghost use Rattle.px_play.specs.Acknowledged.{KeepsAcknowledged};
 ghost use Rattle.px_play.specs.Input.{EndsInput, script_of};
 ghost use Rattle.px_run.specs.Causes.{HasStatusCause, NoCountFell, ReadsNothing, RefusesBad, ShowsRefusal, TellsLineAlone};
 ghost use Rattle.px_run.specs.Command.{IsMakeable, command_of, opens};
-ghost use Rattle.px_run.specs.Dumping.{DumpsRight, ShowsStore};
+ghost use Rattle.px_run.specs.Dumping.{DumpsRight};
 ghost use Rattle.px_run.specs.Making.{MakesRight};
 ghost use Rattle.px_run.specs.Premises.{CanRun, IsDoneOrShort, IsEmpty, NoneRose};
 ghost use Rattle.px_run.specs.Running.{RunsRight, machine_after};
@@ -46,7 +41,8 @@ use std::alloc::Global;
 /// store, or one that isn't whole at that place. `NotEmpty`: `make` found a store or another file. `BadLine`, `SourceFault`
 /// and `TooLong` are `run`'s, at its input. `DiskFault`: a call on a file failed; `OutputFault`: a piece couldn't be told, and
 /// a front of it may have been. `LogFull`: `run` had a frame to write for which the log has no number. `OutOfMemory`: memory
-/// was wanted. An error of the telling of the last line changes nothing.
+/// was wanted. An error of the telling of the last line changes nothing. Once a store was opened, all but `DiskFault` leave it
+/// with all that the calls did, and nothing else, and so does `OutOfMemory` but where the site wanted memory within a commit.
 pub fn pbxt_run<W: Site, S: Source>(
     alloc: Global,
     words: &WordList,
@@ -69,14 +65,13 @@ pub fn pbxt_run<W: Site, S: Source>(
 
     // ---- `run`: what it told and left, each moment, and that it isn't given up
     ensures runs { W.tells → S.tells → command_of words.now ≡ Some Command.Run
-        → (restart : Restart) (changes : List Change) → IsSettledStore restart changes (W.state site.old)
-        → RunsRight restart changes (S.left source.old) (S.left source.new) (W.state site.old) (W.state site.new) (W.counts site.old) (W.counts site.new) result }
+        → (found : Found) → IsFound found (W.state site.old).content
+        → RunsRight found (S.left source.old) (S.left source.new) (W.state site.old) (W.state site.new) (W.counts site.old) (W.counts site.new) result }
     ensures any_moment { W.tells → S.tells → command_of words.now ≡ Some Command.Run
-        → (restart : Restart) (changes : List Change) → IsSettledStore restart changes (W.state site.old)
-        → EachMoment (KeepsAcknowledged (machine_after restart changes (script_of (S.left source.old))) (W.state site.old).now.told) (W.state site.old) (W.state site.new) }
-    ensures first_committer_wins { (restart : Restart) (changes : List Change) → FirstCommitterWins (machine_after restart changes (script_of (S.left source.old))).ended }
+        → (found : Found) → IsSettledStore found (W.state site.old)
+        → EachMoment (KeepsAcknowledged (machine_after found (script_of (S.left source.old))) (W.state site.old).now.told) (W.state site.old) (W.state site.new) }
     ensures complete { W.tells → S.tells → command_of words.now ≡ Some Command.Run
-        → (restart : Restart) (changes : List Change) → IsSettledStore restart changes (W.state site.old) → CanRun restart changes (S.left source.old)
+        → (found : Found) → IsFound found (W.state site.old).content → CanRun found (S.left source.old)
         → NoneRose (W.counts site.old) (W.counts site.new) → (ReadRose (S.faults source.old) (S.faults source.new) → ⊥) → IsDoneOrShort result }
 
     // ---- `make`
@@ -89,13 +84,13 @@ pub fn pbxt_run<W: Site, S: Source>(
 
     // ---- `dump`
     ensures dumps { W.tells → command_of words.now ≡ Some Command.Dump
-        → (restart : Restart) (changes : List Change) → ShowsStore restart changes (W.state site.old).content
-        → DumpsRight restart changes (W.state site.old) (W.state site.new) (W.counts site.old) (W.counts site.new) result }
+        → (found : Found) → IsFound found (W.state site.old).content
+        → DumpsRight found (W.state site.old) (W.state site.new) (W.counts site.old) (W.counts site.new) result }
     ensures complete_dump { W.tells → command_of words.now ≡ Some Command.Dump
-        → (restart : Restart) (changes : List Change) → IsSettledStore restart changes (W.state site.old) → NoneRose (W.counts site.old) (W.counts site.new) → IsDoneOrShort result }
+        → (found : Found) → IsFound found (W.state site.old).content → NoneRose (W.counts site.old) (W.counts site.new) → IsDoneOrShort result }
     ensures same_at_any_moment { W.tells → command_of words.now ≡ Some Command.Dump
-        → (restart : Restart) (changes : List Change) → IsSettledStore restart changes (W.state site.old)
-        → EachMoment (ImagesStandFor (commits_in changes) (rows_in changes)) (W.state site.old) (W.state site.new) }
+        → (found : Found) → IsSettledStore found (W.state site.old)
+        → EachMoment (ImagesStandFor found.commits found.rows) (W.state site.old) (W.state site.new) }
 {
     let status = carry_out_on(alloc, Command::of(words), source, site);
     tell_closing_line(site, &status);
@@ -121,21 +116,21 @@ fn carry_out_on<W: Site, S: Source>(
     ensures unopened { S.tells → command ≡ Some Command.Run → ReadsNothing (S.left source.old) (S.left source.new) result }
     ensures unread { S.tells → command ≢ Some Command.Run → S.left source.new ≡ S.left source.old }
     ensures runs { W.tells → S.tells → command ≡ Some Command.Run
-        → (restart : Restart) (changes : List Change) → IsSettledStore restart changes (W.state site.old)
-        → RunsScript restart changes (S.left source.old) (S.left source.new) (W.state site.old) (W.state site.new) result }
+        → (found : Found) → IsFound found (W.state site.old).content
+        → RunsScript found (S.left source.old) (S.left source.new) (W.state site.old) (W.state site.new) (W.counts site.old) (W.counts site.new) result }
     ensures any_moment { W.tells → S.tells → command ≡ Some Command.Run
-        → (restart : Restart) (changes : List Change) → IsSettledStore restart changes (W.state site.old)
-        → EachMoment (KeepsAcknowledged (machine_after restart changes (script_of (S.left source.old))) (W.state site.old).now.told) (W.state site.old) (W.state site.new) }
+        → (found : Found) → IsSettledStore found (W.state site.old)
+        → EachMoment (KeepsAcknowledged (machine_after found (script_of (S.left source.old))) (W.state site.old).now.told) (W.state site.old) (W.state site.new) }
     ensures makes { W.tells → (tables short : ℕ) → command ≡ Some (Command.Make tables short)
         → MakesStore tables short (W.state site.old) (W.state site.new) result }
     ensures new_at_any_moment { W.tells → (tables short : ℕ) → command ≡ Some (Command.Make tables short)
         → CanMake (W.state site.old) → EachMoment ImagesAreNew (W.state site.old) (W.state site.new) }
     ensures dumps { W.tells → command ≡ Some Command.Dump
-        → (restart : Restart) (changes : List Change) → ShowsStore restart changes (W.state site.old).content
-        → DumpsRows restart changes (W.state site.old) (W.state site.new) result }
+        → (found : Found) → IsFound found (W.state site.old).content
+        → DumpsRows found (W.state site.old) (W.state site.new) result }
     ensures same_at_any_moment { W.tells → command ≡ Some Command.Dump
-        → (restart : Restart) (changes : List Change) → IsSettledStore restart changes (W.state site.old)
-        → EachMoment (ImagesStandFor (commits_in changes) (rows_in changes)) (W.state site.old) (W.state site.new) }
+        → (found : Found) → IsSettledStore found (W.state site.old)
+        → EachMoment (ImagesStandFor found.commits found.rows) (W.state site.old) (W.state site.new) }
 {
     carry_out(alloc, command, source, &mut *site).status
 }
@@ -159,21 +154,21 @@ fn carry_out<W: Site, S: Source>(
     ensures unopened { S.tells → command ≡ Some Command.Run → ReadsNothing (S.left source.old) (S.left source.new) result.status }
     ensures unread { S.tells → command ≢ Some Command.Run → S.left source.new ≡ S.left source.old }
     ensures runs { W.tells → S.tells → command ≡ Some Command.Run
-        → (restart : Restart) (changes : List Change) → IsSettledStore restart changes (W.state site)
-        → RunsScript restart changes (S.left source.old) (S.left source.new) (W.state site) (W.state result.site) result.status }
+        → (found : Found) → IsFound found (W.state site).content
+        → RunsScript found (S.left source.old) (S.left source.new) (W.state site) (W.state result.site) (W.counts site) (W.counts result.site) result.status }
     ensures any_moment { W.tells → S.tells → command ≡ Some Command.Run
-        → (restart : Restart) (changes : List Change) → IsSettledStore restart changes (W.state site)
-        → EachMoment (KeepsAcknowledged (machine_after restart changes (script_of (S.left source.old))) (W.state site).now.told) (W.state site) (W.state result.site) }
+        → (found : Found) → IsSettledStore found (W.state site)
+        → EachMoment (KeepsAcknowledged (machine_after found (script_of (S.left source.old))) (W.state site).now.told) (W.state site) (W.state result.site) }
     ensures makes { W.tells → (tables short : ℕ) → command ≡ Some (Command.Make tables short)
         → MakesStore tables short (W.state site) (W.state result.site) result.status }
     ensures new_at_any_moment { W.tells → (tables short : ℕ) → command ≡ Some (Command.Make tables short)
         → CanMake (W.state site) → EachMoment ImagesAreNew (W.state site) (W.state result.site) }
     ensures dumps { W.tells → command ≡ Some Command.Dump
-        → (restart : Restart) (changes : List Change) → ShowsStore restart changes (W.state site).content
-        → DumpsRows restart changes (W.state site) (W.state result.site) result.status }
+        → (found : Found) → IsFound found (W.state site).content
+        → DumpsRows found (W.state site) (W.state result.site) result.status }
     ensures same_at_any_moment { W.tells → command ≡ Some Command.Dump
-        → (restart : Restart) (changes : List Change) → IsSettledStore restart changes (W.state site)
-        → EachMoment (ImagesStandFor (commits_in changes) (rows_in changes)) (W.state site) (W.state result.site) }
+        → (found : Found) → IsSettledStore found (W.state site)
+        → EachMoment (ImagesStandFor found.commits found.rows) (W.state site) (W.state result.site) }
 {
     match command {
         None => Ended {

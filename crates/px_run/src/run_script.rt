@@ -1,18 +1,16 @@
 // `run`.
-ghost use Rattle.std.specs.Prelude.{◌≡◌, ◌≤◌, ℕ, List, None, Some};
+ghost use Rattle.std.specs.Prelude.{◌≡◌, ◌≤◌, None, Some};
 ghost use Rattle.px_site.specs.Cause.{NoneFell};
 ghost use Rattle.px_site.specs.State.{EachMoment};
-ghost use Rattle.px_told.specs.declared.change.Change.{Change};
-ghost use Rattle.px_restart.specs.declared.restart.Restart.{Restart};
-ghost use Rattle.px_standing.specs.Settled.{IsSettledStore};
-ghost use Rattle.px_standing.specs.Stored.{Stored};
-ghost use Rattle.px_recovery.specs.Opening.{opened_machine, report_of};
+ghost use Rattle.px_standing.specs.Found.{Found, IsFound, IsSettledStore};
+ghost use Rattle.px_core.specs.Working.{WorksFor};
+ghost use Rattle.px_recovery.specs.Opening.{OpensTo};
 ghost use Rattle.px_play.specs.Acknowledged.{KeepsAcknowledged};
 ghost use Rattle.px_play.specs.Causes.{HasPlayCause};
 ghost use Rattle.px_play.specs.Input.{EndsInput, script_of};
 ghost use Rattle.px_run.specs.Causes.{HasStatusCause, ReadsNothing, RefusesBad, ShowsRefusal};
 ghost use Rattle.px_run.specs.Running.{machine_after};
-ghost use Rattle.px_run.specs.Working.{RefusesQuietly, RunsScript};
+ghost use Rattle.px_run.specs.Working.{RefusesQuietly, RunsBy, RunsScript};
 ghost use Rattle.px_run.specs.declared.command.Command.{Command};
 
 use crate::ended::Ended;
@@ -32,10 +30,10 @@ pub(crate) fn run_script<W: Site, S: Source>(alloc: Global, source: &mut S, site
     ensures quiet { W.tells → RefusesQuietly (W.state site) (W.state result.site) result.status }
     ensures input { S.tells → EndsInput (S.left source.old) (S.left source.new) result.status }
     ensures unopened { S.tells → ReadsNothing (S.left source.old) (S.left source.new) result.status }
-    ensures runs { W.tells → S.tells → (restart : Restart) (changes : List Change) → IsSettledStore restart changes (W.state site)
-        → RunsScript restart changes (S.left source.old) (S.left source.new) (W.state site) (W.state result.site) result.status }
-    ensures moments { W.tells → S.tells → (restart : Restart) (changes : List Change) → IsSettledStore restart changes (W.state site)
-        → EachMoment (KeepsAcknowledged (machine_after restart changes (script_of (S.left source.old))) (W.state site).now.told) (W.state site) (W.state result.site) }
+    ensures runs { W.tells → S.tells → (found : Found) → IsFound found (W.state site).content
+        → RunsScript found (S.left source.old) (S.left source.new) (W.state site) (W.state result.site) (W.counts site) (W.counts result.site) result.status }
+    ensures moments { W.tells → S.tells → (found : Found) → IsSettledStore found (W.state site)
+        → EachMoment (KeepsAcknowledged (machine_after found (script_of (S.left source.old))) (W.state site).now.told) (W.state site) (W.state result.site) }
     ensures none_fell { NoneFell (W.counts site) (W.counts result.site) }
     ensures source_none_fell { S.faults source.old ≤ S.faults source.new }
 {
@@ -58,14 +56,11 @@ fn play_opened<W: Site, S: Source>(alloc: Global, opened: &mut Opened<W>, source
     requires { opened.old.core.error ≡ None }
     ensures cause { HasPlayCause (W.counts opened.old.core.site) (W.counts opened.new.core.site) (S.faults source.old) (S.faults source.new) result }
     ensures input { S.tells → EndsInput (S.left source.old) (S.left source.new) result }
-    ensures runs { W.tells → S.tells → (restart : Restart) (changes : List Change)
-        → Stored restart changes opened.old.core.log opened.old.core.machine (W.state opened.old.core.site)
-        → opened.old.core.machine ≡ opened_machine restart changes → opened.old.report ≡ report_of restart changes
-        → RunsScript restart changes (S.left source.old) (S.left source.new) (W.state opened.old.core.site) (W.state opened.new.core.site) result }
-    ensures moments { W.tells → S.tells → (restart : Restart) (changes : List Change)
-        → Stored restart changes opened.old.core.log opened.old.core.machine (W.state opened.old.core.site)
-        → opened.old.core.machine ≡ opened_machine restart changes → opened.old.report ≡ report_of restart changes
-        → EachMoment (KeepsAcknowledged (machine_after restart changes (script_of (S.left source.old))) (W.state opened.old.core.site).now.told) (W.state opened.old.core.site) (W.state opened.new.core.site) }
+    ensures runs { W.tells → S.tells → (found : Found) → OpensTo W.state found opened.old.core opened.old.report
+        → RunsBy (WorksFor W.state opened.new.core) found (S.left source.old) (S.left source.new)
+        (W.state opened.old.core.site) (W.state opened.new.core.site) (W.counts opened.old.core.site) (W.counts opened.new.core.site) result }
+    ensures moments { W.tells → S.tells → (found : Found) → OpensTo W.state found opened.old.core opened.old.report
+        → EachMoment (KeepsAcknowledged (machine_after found (script_of (S.left source.old))) (W.state opened.old.core.site).now.told) (W.state opened.old.core.site) (W.state opened.new.core.site) }
     ensures none_fell { NoneFell (W.counts opened.old.core.site) (W.counts opened.new.core.site) }
     ensures source_none_fell { S.faults source.old ≤ S.faults source.new }
 {

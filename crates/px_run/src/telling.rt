@@ -1,6 +1,8 @@
 // Pieces of text that are told.
 ghost use Rattle.std.specs.Prelude.{◌≡◌, IfErr};
 ghost use Rattle.px_site.specs.Cause.{NoneFell};
+ghost use Rattle.px_model.specs.Machine.{Machine};
+ghost use Rattle.px_core.specs.Working.{WorksFor};
 ghost use Rattle.px_run.specs.Working.{Closes, HasTellCause, TellsPiece};
 
 use px_calls::{Status, closing_line};
@@ -12,6 +14,7 @@ use px_site::Site;
 pub(crate) fn tell<W: Site>(core: &mut Core<W>, piece: &[u8]) -> Result<(), Status>
     ensures tells { W.tells → TellsPiece piece.now (W.state core.old.site) (W.state core.new.site) result }
     ensures rest { core.new ≡ record core.old { site = core.new.site } }
+    ensures works { W.tells → (m : Machine) → WorksFor W.state core.old m → WorksFor W.state core.new m }
     ensures cause { IfErr result (HasTellCause (W.counts core.old.site) (W.counts core.new.site)) }
     ensures none_fell { NoneFell (W.counts core.old.site) (W.counts core.new.site) }
 {

@@ -21,7 +21,7 @@ use Rattle.px_logged.proofs.Numbered.{counts_more}
 use Rattle.px_logged.proofs.Grown.{others_keep_committed}
 use Rattle.px_logged.proofs.Recounted.{call_recounts}
 use Rattle.px_standing.specs.Stored.{Stored, ReadsImages}
-use Rattle.px_standing.specs.Images.{acked, StandsBetween}
+use Rattle.px_standing.specs.Images.{acked, IsWithin}
 use Rattle.px_standing.proofs.Settling.{grows}
 use Rattle.px_standing.proofs.Standing.{IsGrowing, growing_stands, committing_stands, last_moment, stored_on}
 
@@ -64,7 +64,7 @@ durable_front restart changes log m s change stored = ap commits_in (take-append
 -- what stands while a frame that commits nothing is appended
 pub appending_stands : {a b : State} (restart : Restart) (changes : List Change) (log : Log) (m : Machine) (session : ℕ) (call : Call) (change : Change) → call ≢ Commit → logged m session call ≡ change ∷ []
     → may_hold log.tables log.frames change ≡ true → Stored restart changes log m a → EachMoment (OnFile the_log a.now (HasFirst log.durable (changes ++ change ∷ []))) a b
-    → EachMoment (StandsBetween (acked m) (commits (state_after m session call)) (state_after m session call) a.now) a b
+    → EachMoment (IsWithin (acked m) (commits (state_after m session call)) (state_after m session call) a.now) a b
 appending_stands {a} {b} restart changes log m session call change other adds held stored moments =
     let did = recounts_one changes m session call change adds stored.did in
     let kept = others_keep_committed m session call other in
@@ -76,7 +76,7 @@ appending_stands {a} {b} restart changes log m session call change other adds he
       commits_are = sym kept.commits ∙ did.commits_are;
       rows_are = sym kept.rows ∙ did.rows_are;
     } in
-    weaker_moments (λ now on. growing_stands restart (changes ++ change ∷ []) log.durable m session call a.now now a.content stored.finds.picked stored.rests growing on) moments
+    weaker_moments (λ now on. record { stands = growing_stands restart (changes ++ change ∷ []) log.durable m session call a.now now a.content stored.finds.picked stored.rests growing on; others = on.others }) moments
 
 pub stored_appended : {a b : State} (restart : Restart) (changes : List Change) (log grown : Log) (m : Machine) (session : ℕ) (call : Call) (change : Change) → call ≢ Commit → logged m session call ≡ change ∷ []
     → grown ≡ with_frame change log → grown.frames ≤ 2 ^ 48 → Stored restart changes log m a → EachMoment (OnFile the_log a.now (HasFirst log.durable (changes ++ change ∷ []))) a b
@@ -108,11 +108,14 @@ both_moments {P} {a} {b} {c} first second = then_moments first (weaker_moments (
 
 pub commit_stands : {a b : State} (restart : Restart) (changes : List Change) (log : Log) (m : Machine) (session : ℕ) (change : Change) → logged m session Commit ≡ change ∷ []
     → may_hold log.tables log.frames change ≡ true → Stored restart changes log m a → EachMoment (OnFile the_log a.now (HasFirst log.durable (changes ++ change ∷ []))) a b
-    → EachMoment (StandsBetween (acked m) (commits (state_after m session Commit)) (state_after m session Commit) a.now) a b
+    → EachMoment (IsWithin (acked m) (commits (state_after m session Commit)) (state_after m session Commit) a.now) a b
 commit_stands {a} {b} restart changes log m session change adds held stored moments =
     let did = recounts_one changes m session Commit change adds stored.did in
-    weaker_moments (λ now on. committing_stands restart changes change log.durable m session a.now now a.content stored.finds.picked stored.rests (grows restart changes log m a stored)
-    (held_one restart changes log m a change stored held) (counts_one changes m session Commit change adds stored.did stored.finds.counted) did.commits_are did.rows_are on) moments
+    weaker_moments (λ now on. record {
+      stands = committing_stands restart changes change log.durable m session a.now now a.content stored.finds.picked stored.rests (grows restart changes log m a stored)
+          (held_one restart changes log m a change stored held) (counts_one changes m session Commit change adds stored.did stored.finds.counted) did.commits_are did.rows_are on;
+      others = on.others;
+    }) moments
 
 pub stored_committed : {a b : State} (restart : Restart) (changes : List Change) (log grown : Log) (m : Machine) (session : ℕ) (change : Change) → logged m session Commit ≡ change ∷ []
     → grown.tables ≡ log.tables → grown.durable ≡ log.frames + 1 → grown.frames ≤ 2 ^ 48 → Stored restart changes log m a → EachMoment (OnFile the_log a.now (HasFirst log.durable (changes ++ change ∷ []))) a b

@@ -1,10 +1,10 @@
 -- A site that holds all of a machine is a settled store.
-use Rattle.std.proofs.Common.{◌≡◌, ℕ, ◌+◌, ◌^◌, ◌≤◌, List, [], ◌∷◌, ◌++◌, length, map, take, drop, refl, sym, ap, subst, ◌∙◌, append_assoc, arith, length-append}
+use Rattle.std.proofs.Common.{◌≡◌, ℕ, ◌+◌, ◌^◌, ◌<◌, ◌≤◌, List, [], ◌∷◌, ◌++◌, length, map, take, drop, refl, sym, ap, subst, ◌∙◌, append_assoc, arith, length-append}
 use Rattle.std.specs.List.{AllByRecursion}
-use Rattle.std.proofs.lemmas.List.{append-nil, drop_at, take_at}
+use Rattle.std.proofs.lemmas.List.{append-nil, drop_at, length-map, take_at}
 use Rattle.px_site.specs.declared.name.FileName.TheVariants.{Restart as RestartFile}
 use Rattle.px_site.specs.Disk.{Change as DiskChange, Wrote, FileState, overlay, overlaid, at_rest}
-use Rattle.px_site.specs.State.{State}
+use Rattle.px_site.specs.State.{State, spoke}
 use Rattle.px_model.specs.declared.row.Row.{Row}
 use Rattle.px_model.specs.Machine.{Machine, commits}
 use Rattle.px_told.specs.declared.change.Change.{Change}
@@ -16,17 +16,19 @@ use Rattle.px_restart.specs.declared.restart.Restart.{Restart}
 use Rattle.px_restart.specs.declared.restart.TheConstants.{RESTART_SIZE}
 use Rattle.px_restart.specs.declared.text.TheConstants.{VERSION}
 use Rattle.px_restart.specs.Restart.{restart_text}
-use Rattle.px_scan.specs.Scan.{frames}
+use Rattle.px_scan.specs.Scan.{CanFrames, frames}
+use Rattle.px_scan.proofs.Scans.{is_scan}
 use Rattle.px_xlog.specs.Payload.{change_text}
 use Rattle.px_xlog.specs.Contents.{the_log, log_text}
 use Rattle.px_xlog.specs.Written.{HasAt, IsBehind, IsPlainLog}
 use Rattle.px_xlog.specs.Log.{Log, HasFirst, appended, grown_file}
 use Rattle.px_xlog.proofs.Appending.{appended_behind, log_parts, first_survive}
-use Rattle.px_xlog.proofs.FramesOfChanges.{can_frames}
 use Rattle.px_xlog.proofs.Growing.{overlay_end}
 use Rattle.px_standing.specs.Standing.{Files, StandsFor}
-use Rattle.px_standing.specs.Images.{IsPlainRestart, IsPlainImage}
-use Rattle.px_standing.specs.Settled.{IsSettledStore}
+use Rattle.px_standing.specs.Images.{IsPlainRestart, IsPlainImage, ImagesStandFor, HasCommitted}
+use Rattle.px_standing.specs.Found.{IsSettledStore, found_in}
+use Rattle.px_logged.specs.Recounting.{rows_now}
+use Rattle.px_logged.proofs.Held.{commits_within}
 use Rattle.px_standing.specs.Stored.{Stored, ReadsImages}
 use Rattle.px_standing.proofs.Standing.{IsGrowing, image_stands}
 
@@ -78,10 +80,33 @@ grows restart changes log m s stored = record {
   rows_are = stored.did.rows_are;
 }
 
-pub stored_settled : (restart : Restart) (changes : List Change) (log : Log) (m : Machine) (s : State) → log.frames ≤ 2 ^ 48 → ReadsImages s → Stored restart changes log m s
-    → IsSettledStore restart changes s
-stored_settled restart changes log m s below reads stored = record {
-  finds = stored.finds;
+-- the log's frames were read, so each has its number
+can_all : {restart : Restart} {changes : List Change} {log : Log} {m : Machine} {s : State} → Stored restart changes log m s → CanFrames 0 (map change_text changes)
+can_all {restart} {changes} {log} {m} {s} stored = subst (CanFrames 0) stored.finds.scanned (is_scan (s.content the_log) 0).1.can
+
+frames_fit : (number : ℕ) (payloads : List (List ℕ)) → CanFrames number payloads → number ≤ 2 ^ 48 → number + length payloads ≤ 2 ^ 48
+frames_fit number [] can fits = omega (arith, fits)
+frames_fit number (payload ∷ payloads) can fits = omega (arith, frames_fit (number + 1) payloads can.1 (omega (arith, can.0.numbered)))
+
+pub changes_fit : {restart : Restart} {changes : List Change} {log : Log} {m : Machine} {s : State} → Stored restart changes log m s → length changes ≤ 2 ^ 48
+changes_fit {restart} {changes} stored = omega (arith, frames_fit 0 (map change_text changes) (can_all stored) (omega arith), length-map changes change_text)
+
+-- no log has more commits than a number has room for
+pub commits_fit : {restart : Restart} {changes : List Change} {log : Log} {m : Machine} {s : State} → Stored restart changes log m s → commits m < 2 ^ 64
+commits_fit {restart} {changes} stored = omega (arith, stored.did.commits_are, commits_within restart.tables changes stored.finds.held, changes_fit stored)
+
+stored_image : {restart : Restart} {changes : List Change} {log : Log} {m : Machine} {s : State} → Stored restart changes log m s → (image : Files) → IsPlainImage s.now image → HasCommitted m image
+stored_image {restart} {changes} {log} {m} {s} stored image plain =
+    let first = subst (λ (f : FileState). HasFirst log.durable changes f) (sym stored.log.file) (first_survive log.durable changes (can_all stored) stored.log.durable) in
+    image_stands restart changes log.durable m s.now s.content image stored.finds.picked stored.rests (grows restart changes log m s stored) first plain
+
+-- whatever a crash leaves stands for all that the machine has committed
+pub stored_stands : {restart : Restart} {changes : List Change} {log : Log} {m : Machine} {s : State} → Stored restart changes log m s → ImagesStandFor (commits m) (rows_now m) s.now
+stored_stands stored = record { each = λ image plain. stored_image stored image plain }
+
+pub stored_settled : (restart : Restart) (changes : List Change) (log : Log) (m : Machine) (s : State) → ReadsImages s → Stored restart changes log m s → IsSettledStore (found_in restart changes) s
+stored_settled restart changes log m s reads stored = record {
+  is_found = record { restart = restart; changes = changes; finds = stored.finds; is = refl };
   settled = record {
     plain = record {
       each = reads;
@@ -98,8 +123,24 @@ stored_settled restart changes log m s below reads stored = record {
   where
     stands : (image : Files) → IsPlainImage s.now image → StandsFor image (commits_in changes) (rows_in changes)
     stands image plain =
-        let can = can_frames log.tables 0 changes stored.log.held (omega (arith, stored.log.count, below)) in
-        let first = subst (λ (f : FileState). HasFirst log.durable changes f) (sym stored.log.file) (first_survive log.durable changes can stored.log.durable) in
         subst (λ (c : ℕ). StandsFor image c (rows_in changes)) stored.did.commits_are
-        (subst (λ (rows : List Row). StandsFor image (commits m) rows) stored.did.rows_are
-        (image_stands restart changes log.durable m s.now s.content image stored.finds.picked stored.rests (grows restart changes log m s stored) first plain))
+        (subst (λ (rows : List Row). StandsFor image (commits m) rows) stored.did.rows_are (stored_image stored image plain))
+
+-- telling leaves the files as they were
+pub stored_spoke : {restart : Restart} {changes : List Change} {log : Log} {m : Machine} {s : State} (bytes out : List ℕ) → Stored restart changes log m s → Stored restart changes log m (spoke bytes out s)
+stored_spoke bytes out stored = record {
+  finds = stored.finds;
+  log = record {
+    held = stored.log.held;
+    count = stored.log.count;
+    durable = stored.log.durable;
+    size = stored.log.size;
+    content = stored.log.content;
+    file = stored.log.file;
+  };
+  rests = record { first = stored.rests.first; second = stored.rests.second };
+  tables = stored.tables;
+  reached = stored.reached;
+  durable = stored.durable;
+  did = stored.did;
+}

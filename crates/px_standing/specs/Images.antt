@@ -60,6 +60,15 @@ pub record StandsBetween (least most : ℕ) (m : Machine) (before now : Moment) 
   pub told : now.told ≡ before.told
   pub telling : now.telling ≡ []
 
+-- no file but the log's is changed
+abbrev pub LeavesOthers : Moment → Moment → Type 0
+LeavesOthers before now = (name : FileName) → same_file the_log name ≡ false → now.files name ≡ before.files name
+
+-- a moment within a session's call
+pub record IsWithin (least most : ℕ) (m : Machine) (before now : Moment) : Type 0 where
+  pub stands : StandsBetween least most m before now
+  pub others : LeavesOthers before now
+
 -- ---- while a store is made
 
 -- whatever a crash at this moment leaves has no restart, or stands for no commits and no rows

@@ -1,4 +1,5 @@
 pub mod Examples
+pub mod Found
 pub mod Images
 pub mod Settled
 pub mod Standing

@@ -3,22 +3,12 @@ use Rattle.std.specs.Prelude.{ℕ, List}
 use Rattle.std.specs.List.{AllByRecursion}
 use Rattle.px_site.specs.State.{State}
 use Rattle.px_model.specs.declared.row.Row.{Row}
-use Rattle.px_told.specs.declared.change.Change.{Change}
-use Rattle.px_told.specs.Commits.{commits_in}
-use Rattle.px_told.specs.Writes.{rows_in}
-use Rattle.px_restart.specs.declared.restart.Restart.{Restart}
 use Rattle.px_xlog.specs.Contents.{the_log}
 use Rattle.px_xlog.specs.Written.{IsBehind}
 use Rattle.px_standing.specs.Images.{IsPlainImage, ImagesStandFor}
-use Rattle.px_standing.specs.Standing.{Finds}
 
 -- the site stands for these commits and rows, and so does whatever a crash now leaves of it; its log only grew since its last sync
 pub record Settled (s : State) (commits : ℕ) (rows : List Row) : Type 0 where
   pub plain : IsPlainImage s.now s.content
   pub images : ImagesStandFor commits rows s.now
   pub grew : AllByRecursion (IsBehind (s.now.files the_log).synced) (s.now.files the_log).pending
-
--- the site stands for a store: its restart, its changes, and nothing else whatever a crash leaves of it
-pub record IsSettledStore (restart : Restart) (changes : List Change) (s : State) : Type 0 where
-  pub finds : Finds s.content restart changes
-  pub settled : Settled s (commits_in changes) (rows_in changes)

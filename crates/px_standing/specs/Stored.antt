@@ -1,5 +1,5 @@
 -- A site that holds all of a machine.
-use Rattle.std.specs.Prelude.{◌≡◌, ◌^◌, ◌≤◌, List, take}
+use Rattle.std.specs.Prelude.{◌≡◌, ◌≤◌, List, take}
 use Rattle.px_site.specs.declared.name.FileName.{FileName}
 use Rattle.px_site.specs.declared.name.FileName.TheVariants.{Restart as RestartFile}
 use Rattle.px_site.specs.Disk.{IsImage, at_rest}
@@ -10,7 +10,7 @@ use Rattle.px_told.specs.Commits.{commits_in}
 use Rattle.px_restart.specs.declared.restart.Restart.{Restart}
 use Rattle.px_xlog.specs.Log.{Log, IsLogOf}
 use Rattle.px_logged.specs.Recounting.{Recounts}
-use Rattle.px_standing.specs.Settled.{IsSettledStore}
+use Rattle.px_standing.specs.Found.{IsSettledStore, found_in}
 use Rattle.px_standing.specs.Standing.{Files, first_restart, second_restart, Finds}
 
 -- both restart files are on the disk as they read
@@ -34,5 +34,5 @@ ReadsImages s = (name : FileName) → IsImage (s.now.files name) (s.content name
 
 -- a site that holds all of a machine is a settled store
 abbrev pub StoredIsSettled : Type 0
-StoredIsSettled = (restart : Restart) (changes : List Change) (log : Log) (m : Machine) (s : State) → log.frames ≤ 2 ^ 48 → ReadsImages s
-    → Stored restart changes log m s → IsSettledStore restart changes s
+StoredIsSettled = (restart : Restart) (changes : List Change) (log : Log) (m : Machine) (s : State) → ReadsImages s
+    → Stored restart changes log m s → IsSettledStore (found_in restart changes) s

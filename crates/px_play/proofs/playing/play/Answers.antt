@@ -20,17 +20,17 @@ loop-answered-init g c =
       none_fell = no_fall;
       source_none_fell = omega arith;
       read = λ tells. subst (λ (p : Progress). IsRead input p input 0) (sym c.new-lines.ensures) (nothing_handed input);
-      played = λ tells tells_too restart changes stored. played_none restart changes (script_of input) old (state old.site) stored;
-      kept = λ tells tells_too restart changes stored told acks. keeps_none (script_of input) told old (state old.site) acks;
+      played = λ tells tells_too m works. played_none state m (script_of input) old works;
+      kept = λ tells tells_too m works told acks. keeps_none m (script_of input) told (state old.site) acks;
     }
 
 pub returns-in-Err-clause-plays : goal.returns-in-Err-clause-plays
-returns-in-Err-clause-plays g c = λ tells tells_too restart changes stored.
+returns-in-Err-clause-plays g c = λ tells tells_too m works.
     let read = c.loop-answered.invariant.read tells_too in
-    reading_ends (g.S.Source.faults c.loop-answered.source) (g.S.Source.faults c.next_line.new.source) c.in-Err.status c.in-Err.ensures.cause (record {
+    reading_ends g.W.Site.counts (g.S.Source.faults c.loop-answered.source) (g.S.Source.faults c.next_line.new.source) c.in-Err.status c.in-Err.ensures.cause (record {
       may = c.in-Err.ensures.ends tells_too (g.S.Source.left c.args.source.now) read;
       few = few_calls read;
-      played = c.loop-answered.invariant.played tells tells_too restart changes stored;
+      played = c.loop-answered.invariant.played tells tells_too m works;
     })
 
 pub returns-in-Err-turn-clause-input : goal.returns-in-Err-turn-clause-input
@@ -40,23 +40,23 @@ returns-in-Err-turn-clause-input g c = λ tells.
     ends_input (turn_input status (subst (λ (line : List ℕ). HasTurnEnd line (c.loop-answered.answered + 1) status) c.line.ensures c.in-Err-turn.ensures.ends) asked)
 
 pub returns-in-Err-turn-clause-plays : goal.returns-in-Err-turn-clause-plays
-returns-in-Err-turn-clause-plays g c = λ tells tells_too restart changes stored.
+returns-in-Err-turn-clause-plays g c = λ tells tells_too m works.
     let read = c.loop-answered.invariant.read tells_too in
-    let played = c.loop-answered.invariant.played tells tells_too restart changes stored in
+    let played = c.loop-answered.invariant.played tells tells_too m works in
     let asked = c.in_default.ensures.asked tells_too (g.S.Source.left c.args.source.now) read in
     let status = c.in-Err-turn.status in
     let said = c.in-Err-turn.ensures in
-    turn_ends g.W.Site.state status (subst (λ (line : List ℕ). HasTurnEnd line (c.loop-answered.answered + 1) status) c.line.ensures said.ends) asked (few_calls read) played
+    turn_ends g.W.Site.state g.W.Site.counts status (subst (λ (line : List ℕ). HasTurnEnd line (c.loop-answered.answered + 1) status) c.line.ensures said.ends) asked (few_calls read) played c.loop-answered.invariant.none_fell
     (λ none. said.unplayed (ap command_line c.line.ensures ∙ none))
-    (λ d is. said.plays tells d (ap command_line c.line.ensures ∙ is) restart _ played.stored)
+    (λ d is. said.plays tells d (ap command_line c.line.ensures ∙ is) _ played.made.holds.works)
 
 pub returns-in-Err-turn-clause-moments : goal.returns-in-Err-turn-clause-moments
-returns-in-Err-turn-clause-moments g c = λ tells tells_too restart changes stored before so_far told whole all.
-    let asked = c.in_default.ensures.asked tells_too (g.S.Source.left c.args.source.now) (c.loop-answered.invariant.read tells_too) in
-    keeps_end g.W.Site.state c.line.result.now (c.loop-answered.invariant.played tells tells_too restart changes stored)
-    (λ d is. (asked.command d (ap command_line (sym c.line.ensures) ∙ is)).0)
-    (c.loop-answered.invariant.kept tells tells_too restart changes stored before (record { so_far = so_far; told = told; whole = whole; all = all }))
-    c.in-Err-turn.ensures.unplayed (c.in-Err-turn.ensures.moments tells)
+returns-in-Err-turn-clause-moments g c = λ tells tells_too m works before so_far told whole all.
+    let known = c.loop-answered.invariant in
+    let asked = c.in_default.ensures.asked tells_too (g.S.Source.left c.args.source.now) (known.read tells_too) in
+    keeps_end g.W.Site.state c.line.result.now (λ d is. (asked.command d (ap command_line (sym c.line.ensures) ∙ is)).0)
+    (known.kept tells tells_too m works before (record { so_far = so_far; told = told; whole = whole; all = all }))
+    c.in-Err-turn.ensures.unplayed (λ d is. c.in-Err-turn.ensures.moments tells d is _ (known.played tells tells_too m works).made.holds.works)
 
 pub loop-answered-preserved : goal.loop-answered-preserved
 loop-answered-preserved g c =
@@ -70,10 +70,10 @@ loop-answered-preserved g c =
       none_fell = then_none_fell known.none_fell said.none_fell;
       source_none_fell = omega (arith, known.source_none_fell, c.next_line.ensures.none_fell);
       read = λ tells. (next tells).1;
-      played = λ tells tells_too restart changes stored.
-          let played = known.played tells tells_too restart changes stored in
-          played_more d played (next tells_too).0 (said.plays tells d said.done.1 restart _ played.stored);
-      kept = λ tells tells_too restart changes stored told acks.
-          let played = known.played tells tells_too restart changes stored in
-          keeps_more d played (next tells_too).0 (said.plays tells d said.done.1 restart _ played.stored) (known.kept tells tells_too restart changes stored told acks) (said.moments tells d said.done.1);
+      played = λ tells tells_too m works.
+          let played = known.played tells tells_too m works in
+          played_more g.W.Site.counts d played (next tells_too).0 (said.plays tells d said.done.1 _ played.made.holds.works);
+      kept = λ tells tells_too m works told acks.
+          let played = known.played tells tells_too m works in
+          keeps_more g.W.Site.counts d (next tells_too).0 (said.plays tells d said.done.1 _ played.made.holds.works) (known.kept tells tells_too m works told acks) (said.moments tells d said.done.1 _ played.made.holds.works);
     }

@@ -1,8 +1,7 @@
 use Rattle.std.proofs.Common.{◌≡◌, ◌≤◌, ℕ, List, None}
 use Rattle.px_site.specs.Cause.{NoneFell}
-use Rattle.px_told.specs.declared.change.Change.{Change}
-use Rattle.px_restart.specs.declared.restart.Restart.{Restart}
-use Rattle.px_standing.specs.Stored.{Stored}
+use Rattle.px_model.specs.Machine.{Machine}
+use Rattle.px_core.specs.Working.{WorksFor}
 use Rattle.px_play.specs.Input.{script_of}
 use Rattle.px_play.specs.Reading.{IsRead}
 use Rattle.px_play.specs.Turns.{Acknowledges}
@@ -20,8 +19,7 @@ invariant-loop-answered g l =
       none_fell : NoneFell (g.W.Site.counts old.site) (g.W.Site.counts l.core.site);
       source_none_fell : g.S.Source.faults l.fn.source ≤ g.S.Source.faults l.source;
       read : g.S.Source.tells → IsRead input l.lines (g.S.Source.left l.source) l.answered;
-      played : tells → g.S.Source.tells → (restart : Restart) (changes : List Change) → Stored restart changes old.log old.machine (state old.site)
-          → HasPlayed restart changes (script_of input) old l.core (state old.site) (state l.core.site) l.answered;
-      kept : tells → g.S.Source.tells → (restart : Restart) (changes : List Change) → Stored restart changes old.log old.machine (state old.site)
-          → (told : List ℕ) → Acknowledges told old.machine (state old.site) → KeepsSoFar (script_of input) told old l.core (state old.site) (state l.core.site);
+      played : tells → g.S.Source.tells → (m : Machine) → WorksFor state old m → HasPlayed state m (script_of input) old l.core l.answered;
+      kept : tells → g.S.Source.tells → (m : Machine) → WorksFor state old m → (told : List ℕ) → Acknowledges told m (state old.site)
+          → KeepsSoFar m (script_of input) told (state old.site) (state l.core.site) l.answered;
     }

@@ -9,4 +9,7 @@ pub returns-in-Err-clause-told : goal.returns-in-Err-clause-told
 returns-in-Err-clause-told g c t = told_stays (c.open_parts.ensures.quiet t)
 
 pub returns-in-Err-clause-sound : goal.returns-in-Err-clause-sound
-returns-in-Err-clause-sound g c t restart changes finds = only_passing (g.W.Site.state c.args.site).content restart changes c.in-Err.error finds (c.in-Err.ensures.refused t)
+returns-in-Err-clause-sound g c t found is_found = only_passing (g.W.Site.state c.args.site).content is_found.restart is_found.changes c.in-Err.error is_found.finds (c.in-Err.ensures.refused t)
+
+pub returns-in-Ok-clause-stored : goal.returns-in-Ok-clause-stored
+returns-in-Ok-clause-stored g c t found is_found = rw c.over.ensures (c.in-Ok.ensures.stored t found is_found)

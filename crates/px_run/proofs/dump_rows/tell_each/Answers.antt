@@ -25,6 +25,7 @@ loop-row-preserved g c = record {
       line_more c.args.rows.now c.loop-row.row-index c.row-item.result (g.W.Site.state c.args.core.now.site) (g.W.Site.state c.loop-row.core.site) (g.W.Site.state c.tell_row.new.core.site)
       c.loop-row-test.true c.row-item.is (c.loop-row.invariant.told t) (c.in_ok-tell_row.ensures.tells t);
   only = λ t. then_only (c.loop-row.invariant.only t) (only_piece _ c.tell_row.result (c.tell_row.ensures.tells t));
+  works = λ t m works. c.tell_row.ensures.works t m (c.loop-row.invariant.works t m works);
   rest = c.tell_row.ensures.rest ∙ ap (λ (core : Kept _). record core { site = c.tell_row.new.core.site }) c.loop-row.invariant.rest;
   none_fell = then_none_fell c.loop-row.invariant.none_fell c.tell_row.ensures.none_fell;
 }

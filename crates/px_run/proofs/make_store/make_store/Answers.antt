@@ -15,7 +15,7 @@ returns-in-Err-clause-cause g c =
 pub returns-in-Err-clause-makes : goal.returns-in-Err-clause-makes
 returns-in-Err-clause-makes g c t =
     subst (MakesStore c.args.tables c.args.short _ _) (sym c.from.ensures)
-    (not_made c.args.tables c.args.short _ _ c.in-Err.error (c.make.ensures.first_alone t) (c.in-Err.ensures.refused t))
+    (not_made c.args.tables c.args.short _ _ c.in-Err.error (c.make.ensures.first_alone t) (c.make.ensures.spared t) (c.in-Err.ensures.refused t))
 
 pub returns-in-Err-clause-moments : goal.returns-in-Err-clause-moments
 returns-in-Err-clause-moments g c t can = making_moments (c.make.ensures.moments t can)

@@ -1,14 +1,12 @@
 use Rattle.std.proofs.Common.{sym, subst}
 use Rattle.px_site.specs.State.{EachMoment}
-use Rattle.px_told.specs.Commits.{commits_in}
-use Rattle.px_told.specs.Writes.{rows_in}
 use Rattle.px_standing.specs.Images.{ImagesAreNew, ImagesStandFor}
 use Rattle.px_play.specs.Acknowledged.{KeepsAcknowledged}
 use Rattle.px_play.specs.Input.{script_of}
 use Rattle.px_run.specs.Causes.{HasStatusCause, NoCountFell, ShowsRefusal}
 use Rattle.px_run.specs.Running.{machine_after}
 use Rattle.px_run.specs.Working.{DumpsRows, MakesStore, RefusesQuietly, RunsScript}
-use Rattle.px_run.proofs.Lent.{lent_cause, lent_fell}
+use Rattle.px_run.proofs.Lent.{lent_cause, lent_fell, lent_runs}
 use Rattle.px_run.proofs.run.carry_out_on.Goals as goal
 
 -- each of these is known of the reference that comes back, and that is the one that was lent
@@ -36,17 +34,19 @@ returns-clause-none_fell g c =
     (lent_fell (g.W.Site.counts c.args.site.now) (g.W.Site.counts c.carry_out.result.site.now) c.carry_out.ensures.none_fell)
 
 pub returns-clause-runs : goal.returns-clause-runs
-returns-clause-runs g c t u run restart changes store =
+returns-clause-runs g c t u run found is_found =
     let is = c.site-1.given.1 (sym c.carry_out.ensures.none_fell.same) in
-    subst (λ (site : g.row.W.Denot). RunsScript restart changes (g.S.Source.left c.args.source.now) (g.S.Source.left c.carry_out.new.source) (g.W.Site.state c.args.site.now) (g.W.Site.state site) c.carry_out.result.status) (sym is)
-    (c.carry_out.ensures.runs t u run restart changes store)
+    subst (λ (site : g.row.W.Denot).
+    RunsScript found (g.S.Source.left c.args.source.now) (g.S.Source.left c.carry_out.new.source) (g.W.Site.state c.args.site.now) (g.W.Site.state site) (g.W.Site.counts c.args.site.now) (g.W.Site.counts site) c.carry_out.result.status) (sym is)
+    (lent_runs found (g.S.Source.left c.args.source.now) (g.S.Source.left c.carry_out.new.source) (g.W.Site.state c.args.site.now) (g.W.Site.state c.carry_out.result.site.now) (g.W.Site.counts c.args.site.now)
+    (g.W.Site.counts c.carry_out.result.site.now) c.carry_out.result.status (c.carry_out.ensures.runs t u run found is_found))
 
 pub returns-clause-any_moment : goal.returns-clause-any_moment
-returns-clause-any_moment g c t u run restart changes store =
+returns-clause-any_moment g c t u run found store =
     let is = c.site-1.given.1 (sym c.carry_out.ensures.none_fell.same) in
     let a = g.W.Site.state c.args.site.now in
-    subst (λ (site : g.row.W.Denot). EachMoment (KeepsAcknowledged (machine_after restart changes (script_of (g.S.Source.left c.args.source.now))) a.now.told) a (g.W.Site.state site)) (sym is)
-    (c.carry_out.ensures.any_moment t u run restart changes store)
+    subst (λ (site : g.row.W.Denot). EachMoment (KeepsAcknowledged (machine_after found (script_of (g.S.Source.left c.args.source.now))) a.now.told) a (g.W.Site.state site)) (sym is)
+    (c.carry_out.ensures.any_moment t u run found store)
 
 pub returns-clause-makes : goal.returns-clause-makes
 returns-clause-makes g c t tables short make =
@@ -59,12 +59,12 @@ returns-clause-new_at_any_moment g c t tables short make can =
     subst (λ (site : g.row.W.Denot). EachMoment ImagesAreNew (g.W.Site.state c.args.site.now) (g.W.Site.state site)) (sym is) (c.carry_out.ensures.new_at_any_moment t tables short make can)
 
 pub returns-clause-dumps : goal.returns-clause-dumps
-returns-clause-dumps g c t dump restart changes shows =
+returns-clause-dumps g c t dump found is_found =
     let is = c.site-1.given.1 (sym c.carry_out.ensures.none_fell.same) in
-    subst (λ (site : g.row.W.Denot). DumpsRows restart changes (g.W.Site.state c.args.site.now) (g.W.Site.state site) c.carry_out.result.status) (sym is) (c.carry_out.ensures.dumps t dump restart changes shows)
+    subst (λ (site : g.row.W.Denot). DumpsRows found (g.W.Site.state c.args.site.now) (g.W.Site.state site) c.carry_out.result.status) (sym is) (c.carry_out.ensures.dumps t dump found is_found)
 
 pub returns-clause-same_at_any_moment : goal.returns-clause-same_at_any_moment
-returns-clause-same_at_any_moment g c t dump restart changes store =
+returns-clause-same_at_any_moment g c t dump found store =
     let is = c.site-1.given.1 (sym c.carry_out.ensures.none_fell.same) in
-    subst (λ (site : g.row.W.Denot). EachMoment (ImagesStandFor (commits_in changes) (rows_in changes)) (g.W.Site.state c.args.site.now) (g.W.Site.state site)) (sym is)
-    (c.carry_out.ensures.same_at_any_moment t dump restart changes store)
+    subst (λ (site : g.row.W.Denot). EachMoment (ImagesStandFor found.commits found.rows) (g.W.Site.state c.args.site.now) (g.W.Site.state site)) (sym is)
+    (c.carry_out.ensures.same_at_any_moment t dump found store)

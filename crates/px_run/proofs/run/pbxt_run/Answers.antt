@@ -1,9 +1,7 @@
 use Rattle.std.proofs.Common.{◌∙◌}
-use Rattle.px_play.specs.Input.{script_of}
 use Rattle.px_run.proofs.Closed.{alone, dump_closed, make_closed, new_closed, only_closes, run_closed, same_closed}
-use Rattle.px_run.proofs.Complete.{complete_dump, complete_make, complete_run, first_wins}
+use Rattle.px_run.proofs.Complete.{complete_dump, complete_make, complete_run}
 use Rattle.px_run.proofs.Counted.{later_cause, output_rose, then_no_fall}
-use Rattle.px_run.proofs.Opening.{settled_shows}
 use Rattle.px_run.proofs.Ending.{acknowledged_closed}
 use Rattle.px_run.proofs.run.pbxt_run.Goals as goal
 
@@ -17,21 +15,21 @@ pub returns-clause-none_fell : goal.returns-clause-none_fell
 returns-clause-none_fell g c = then_no_fall c.carry_out_on-status.ensures.none_fell c.tell_closing_line.ensures.none_fell
 
 pub returns-clause-runs : goal.returns-clause-runs
-returns-clause-runs g c t u is restart changes store =
-    run_closed restart changes (g.S.Source.left c.args.source.now) (g.S.Source.left c.carry_out_on-status.new.source)
+returns-clause-runs g c t u is found is_found =
+    run_closed found (g.S.Source.left c.args.source.now) (g.S.Source.left c.carry_out_on-status.new.source)
     (g.W.Site.state c.args.site.now) (g.W.Site.state c.carry_out_on-status.new.site) (g.W.Site.state c.tell_closing_line.new.site)
     (g.W.Site.counts c.args.site.now) (g.W.Site.counts c.carry_out_on-status.new.site) (g.W.Site.counts c.tell_closing_line.new.site) c.carry_out_on-status.result
-    (c.carry_out_on-status.ensures.runs t u (c.of.ensures.command ∙ is) restart changes store) (c.tell_closing_line.ensures.closes t) c.carry_out_on-status.ensures.none_fell
+    (c.carry_out_on-status.ensures.runs t u (c.of.ensures.command ∙ is) found is_found) (c.tell_closing_line.ensures.closes t) c.carry_out_on-status.ensures.none_fell c.tell_closing_line.ensures.none_fell
     (output_rose c.of.result (g.W.Site.counts c.args.site.now) (g.W.Site.counts c.carry_out_on-status.new.site) (g.W.Site.counts c.tell_closing_line.new.site) (g.S.Source.faults c.args.source.now) (g.S.Source.faults c.carry_out_on-status.new.source)
     c.carry_out_on-status.result c.carry_out_on-status.ensures.cause c.tell_closing_line.ensures.none_fell)
 
 pub returns-clause-any_moment : goal.returns-clause-any_moment
-returns-clause-any_moment g c t u is restart changes store =
-    acknowledged_closed restart changes (g.S.Source.left c.args.source.now) (g.S.Source.left c.carry_out_on-status.new.source) c.carry_out_on-status.result
+returns-clause-any_moment g c t u is found store =
+    acknowledged_closed found (g.S.Source.left c.args.source.now) (g.S.Source.left c.carry_out_on-status.new.source) c.carry_out_on-status.result
     (g.W.Site.state c.args.site.now) (g.W.Site.state c.carry_out_on-status.new.site) (g.W.Site.state c.tell_closing_line.new.site)
-    (g.W.Site.counts c.carry_out_on-status.new.site) (g.W.Site.counts c.tell_closing_line.new.site) store
-    (c.carry_out_on-status.ensures.any_moment t u (c.of.ensures.command ∙ is) restart changes store)
-    (c.carry_out_on-status.ensures.runs t u (c.of.ensures.command ∙ is) restart changes store) (c.tell_closing_line.ensures.closes t)
+    (g.W.Site.counts c.args.site.now) (g.W.Site.counts c.carry_out_on-status.new.site) (g.W.Site.counts c.tell_closing_line.new.site) store
+    (c.carry_out_on-status.ensures.any_moment t u (c.of.ensures.command ∙ is) found store)
+    (c.carry_out_on-status.ensures.runs t u (c.of.ensures.command ∙ is) found store.is_found) (c.tell_closing_line.ensures.closes t)
 
 pub returns-clause-makes : goal.returns-clause-makes
 returns-clause-makes g c t tables short is =
@@ -46,28 +44,25 @@ returns-clause-new_at_any_moment g c t tables short is can =
     new_closed can (c.carry_out_on-status.ensures.new_at_any_moment t tables short (c.of.ensures.command ∙ is) can) (only_closes (c.tell_closing_line.ensures.closes t))
 
 pub returns-clause-dumps : goal.returns-clause-dumps
-returns-clause-dumps g c t is restart changes shows =
-    dump_closed restart changes (g.W.Site.state c.args.site.now) (g.W.Site.state c.carry_out_on-status.new.site) (g.W.Site.state c.tell_closing_line.new.site)
+returns-clause-dumps g c t is found is_found =
+    dump_closed found (g.W.Site.state c.args.site.now) (g.W.Site.state c.carry_out_on-status.new.site) (g.W.Site.state c.tell_closing_line.new.site)
     (g.W.Site.counts c.args.site.now) (g.W.Site.counts c.carry_out_on-status.new.site) (g.W.Site.counts c.tell_closing_line.new.site) c.carry_out_on-status.result
-    (c.carry_out_on-status.ensures.dumps t (c.of.ensures.command ∙ is) restart changes shows) (c.tell_closing_line.ensures.closes t) c.carry_out_on-status.ensures.none_fell
+    (c.carry_out_on-status.ensures.dumps t (c.of.ensures.command ∙ is) found is_found) (c.tell_closing_line.ensures.closes t) c.carry_out_on-status.ensures.none_fell
     (output_rose c.of.result (g.W.Site.counts c.args.site.now) (g.W.Site.counts c.carry_out_on-status.new.site) (g.W.Site.counts c.tell_closing_line.new.site) (g.S.Source.faults c.args.source.now) (g.S.Source.faults c.carry_out_on-status.new.source)
     c.carry_out_on-status.result c.carry_out_on-status.ensures.cause c.tell_closing_line.ensures.none_fell)
 
 pub returns-clause-same_at_any_moment : goal.returns-clause-same_at_any_moment
-returns-clause-same_at_any_moment g c t is restart changes store =
-    same_closed restart changes store (c.carry_out_on-status.ensures.same_at_any_moment t (c.of.ensures.command ∙ is) restart changes store) (only_closes (c.tell_closing_line.ensures.closes t))
-
-pub returns-clause-first_committer_wins : goal.returns-clause-first_committer_wins
-returns-clause-first_committer_wins g c restart changes = first_wins restart changes (script_of (g.S.Source.left c.args.source.now))
+returns-clause-same_at_any_moment g c t is found store =
+    same_closed found store (c.carry_out_on-status.ensures.same_at_any_moment t (c.of.ensures.command ∙ is) found store) (only_closes (c.tell_closing_line.ensures.closes t))
 
 -- where no count rose, the cause of each other status is missing
 pub returns-clause-complete : goal.returns-clause-complete
-returns-clause-complete g c t u is restart changes store can none no_read =
-    complete_run c.of.result restart changes (g.S.Source.left c.args.source.now) (g.S.Source.left c.carry_out_on-status.new.source) (g.W.Site.state c.args.site.now) (g.W.Site.state c.tell_closing_line.new.site)
+returns-clause-complete g c t u is found is_found can none no_read =
+    complete_run c.of.result found (g.S.Source.left c.args.source.now) (g.S.Source.left c.carry_out_on-status.new.source) (g.W.Site.state c.args.site.now) (g.W.Site.state c.tell_closing_line.new.site)
     (g.W.Site.counts c.args.site.now) (g.W.Site.counts c.tell_closing_line.new.site) (g.S.Source.faults c.args.source.now) (g.S.Source.faults c.carry_out_on-status.new.source) c.carry_out_on-status.result can none no_read
     (later_cause c.of.result (g.W.Site.counts c.args.site.now) (g.W.Site.counts c.carry_out_on-status.new.site) (g.W.Site.counts c.tell_closing_line.new.site) (g.S.Source.faults c.args.source.now) (g.S.Source.faults c.carry_out_on-status.new.source)
     c.carry_out_on-status.result c.carry_out_on-status.ensures.cause c.tell_closing_line.ensures.none_fell)
-    (c.carry_out_on-status.ensures.input u (c.of.ensures.command ∙ is)) (returns-clause-runs g c t u is restart changes store)
+    (c.carry_out_on-status.ensures.input u (c.of.ensures.command ∙ is)) (returns-clause-runs g c t u is found is_found)
 
 pub returns-clause-complete_make : goal.returns-clause-complete_make
 returns-clause-complete_make g c t tables short is empty none =
@@ -78,9 +73,9 @@ returns-clause-complete_make g c t tables short is empty none =
     (returns-clause-makes g c t tables short is)
 
 pub returns-clause-complete_dump : goal.returns-clause-complete_dump
-returns-clause-complete_dump g c t is restart changes store none =
-    complete_dump c.of.result restart changes (g.W.Site.state c.args.site.now) (g.W.Site.state c.tell_closing_line.new.site)
+returns-clause-complete_dump g c t is found is_found none =
+    complete_dump c.of.result found (g.W.Site.state c.args.site.now) (g.W.Site.state c.tell_closing_line.new.site)
     (g.W.Site.counts c.args.site.now) (g.W.Site.counts c.tell_closing_line.new.site) (g.S.Source.faults c.args.source.now) (g.S.Source.faults c.carry_out_on-status.new.source) c.carry_out_on-status.result none
     (later_cause c.of.result (g.W.Site.counts c.args.site.now) (g.W.Site.counts c.carry_out_on-status.new.site) (g.W.Site.counts c.tell_closing_line.new.site) (g.S.Source.faults c.args.source.now) (g.S.Source.faults c.carry_out_on-status.new.source)
     c.carry_out_on-status.result c.carry_out_on-status.ensures.cause c.tell_closing_line.ensures.none_fell)
-    (returns-clause-dumps g c t is restart changes (settled_shows restart changes (g.W.Site.state c.args.site.now) store))
+    (returns-clause-dumps g c t is found is_found)
