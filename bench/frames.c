@@ -1,4 +1,5 @@
 /* Frames of 230-byte payloads in BYTES bytes, written and read again: usage: frames BYTES */
+#include "spell.h"
 #include "sum.h"
 #include "timing.h"
 
@@ -23,18 +24,6 @@ static int put(struct buffer *out, const uint8_t *bytes, size_t size)
     memcpy(out->bytes + out->size, bytes, size);
     out->size += size;
     return 1;
-}
-
-static void spell_u32(uint8_t *to, uint32_t n)
-{
-    for (int i = 0; i < 4; i++)
-        to[i] = (uint8_t)(n >> (24 - 8 * i));
-}
-
-static void spell_u64(uint8_t *to, uint64_t n)
-{
-    spell_u32(to, (uint32_t)(n >> 32));
-    spell_u32(to + 4, (uint32_t)n);
 }
 
 static int write_frame(struct buffer *out, uint64_t number, const uint8_t *payload, size_t size)
