@@ -1,0 +1,8 @@
+pub mod Gathering
+pub mod KeptByTickets
+pub mod Leaving
+pub mod Meeting
+pub mod Opened
+pub mod Refusing
+pub mod Replies
+pub mod Seen

@@ -1,0 +1,26 @@
+use Rattle.std.proofs.Common.{sym, ◌∙◌}
+use Rattle.px_held.specs.Errors.{IsPassing}
+use Rattle.px_answers.proofs.Leaving.{if_err}
+use Rattle.px_answers.proofs.Seen.{none_seen, seen_slot, some_seen}
+use Rattle.px_answers.proofs.rows.row_in.Goals as goal
+
+pub returns-in_default-clause-row : goal.returns-in_default-clause-row
+returns-in_default-clause-row g c = λ tells holders m store session xact sees is used.
+    none_seen c.args.reader.now c.args.table c.args.row c.in_ok-slot.field-0 sees is used (c.in_ok-slot.ensures.seen tells store sees.serves used) c.in_default.is
+
+pub returns-in_err-slot-2-clause-sound : goal.returns-in_err-slot-2-clause-sound
+returns-in_err-slot-2-clause-sound g c = λ tells short store serves are used.
+    let reader = c.args.reader.now in
+    let at = seen_slot short reader.xacts.now store reader.own reader.snapshot c.args.table c.args.row c.in-Some.slot are used
+    (sym (c.in_ok-slot.ensures.seen tells store serves used) ∙ c.in-Some.is) in
+    if_err IsPassing c.from_residual-in_err-slot-2.result c.in_err-slot-2.field-0.0 c.from_residual-in_err-slot-2.ensures.1
+    (c.in_err-slot-2.ensures.sound tells store (c.seen.ensures.keeps tells store serves) at)
+
+pub returns-clause-row : goal.returns-clause-row
+returns-clause-row g c = λ tells holders m store session xact sees is used.
+    let reader = c.args.reader.now in
+    let seen = c.in_ok-slot.ensures.seen tells store sees.serves used in
+    let at = seen_slot m.short reader.xacts.now store reader.own reader.snapshot c.args.table c.args.row c.in-Some.slot sees.holds.sound used (sym seen ∙ c.in-Some.is) in
+    c.row_of.ensures
+    ∙ some_seen reader c.args.table c.args.row c.in_ok-slot.field-0 c.in-Some.slot c.in_ok-slot-2.slot sees is used seen c.in-Some.is
+    (c.in_ok-slot-2.ensures.slot tells store (c.seen.ensures.keeps tells store sees.serves) at)

@@ -1,0 +1,5 @@
+pub mod Asking
+pub mod Keeping
+pub mod Reading
+pub mod Seeing
+pub mod Writing
