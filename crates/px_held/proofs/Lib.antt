@@ -1,6 +1,9 @@
 pub mod Committed
+pub mod Going
+pub mod Making
 pub mod Numbered
 pub mod Replaced
 pub mod Serving
+pub mod Stored
 pub mod Unlinked
 pub mod Walks

@@ -11,6 +11,7 @@ use Rattle.px_chain_laws.specs.Reading.{is_committed}
 use Rattle.px_history.specs.Steps.{after_commit, after_rollback}
 use Rattle.px_history.specs.Store.{Store}
 use Rattle.px_opened.specs.Opened.{tables_of}
+use Rattle.px_shown.specs.Tables.{Layouts, Tables}
 use Rattle.px_site.specs.State.{State}
 use Rattle.px_tables.specs.Held.{HasLayout, Held, table_of}
 use Rattle.px_tables.specs.Keys.{HasNoRow}
@@ -30,6 +31,19 @@ served site held store serves = serves
 
 pub elsewhere : (site other : State) (held : HeldTables) (store : Store) → HasSameTables site other → Serves site held store → Serves other held store
 elsewhere site other held store same serves = serving other held store (served site held store serves)
+
+pub anywhere : (site other : State) (held : HeldTables) (store : Store) → Serves site held store → Serves other held store
+anywhere site other held store serves = serving other held store (served site held store serves)
+
+pub same_tables : (site : State) (held : HeldTables) (store other : Store) → other.tables ≡ store.tables → other.layouts ≡ store.layouts
+    → Serves site held store → Serves site held other
+same_tables site held store other tables layouts serves =
+    let are = served site held store serves in
+    serving site held other (record {
+      tables = λ t. are.tables t ∙ sym (ap (λ (f : Tables). f t) tables);
+      sound = λ t. subst (λ (f : Tables). IsSound held.short (f t) (other.layouts t)) (sym tables)
+          (subst (λ (f : Layouts). IsSound held.short (store.tables t) (f t)) (sym layouts) (are.sound t));
+    })
 
 pub one_store : (site : State) (held : HeldTables) (one other : Store) → Serves site held one → Serves site held other → (t : ℕ) → one.tables t ≡ other.tables t
 one_store site held one other a b t = sym ((served site held one a).tables t) ∙ (served site held other b).tables t

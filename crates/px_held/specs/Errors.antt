@@ -1,7 +1,8 @@
 -- Why a call gives up.
-use Rattle.std.specs.Prelude.{◌≡◌, ⊤}
+use Rattle.std.specs.Prelude.{◌≡◌, ⊤, ℕ}
 use Rattle.px_site.specs.Cause.{Counts, Rose}
 use Rattle.px_site.specs.declared.error.Fault.TheVariants.{Read}
+use Rattle.px_site.specs.declared.name.FileName.{FileName}
 use Rattle.px_held.specs.declared.error.HeldError.{HeldError}
 use Rattle.px_held.specs.declared.error.HeldError.TheVariants.{OutOfMemory, Fault as FaultOf, Damaged}
 
@@ -21,3 +22,9 @@ abbrev pub IsDamage : HeldError → Type 0
 IsDamage OutOfMemory = ⊥
 IsDamage (FaultOf fault) = ⊥
 IsDamage (Damaged file place) = ⊤
+
+-- where it is damage, this holds of its file and its place there
+abbrev pub IfDamage : (FileName → ℕ → Type 0) → HeldError → Type 0
+IfDamage P OutOfMemory = ⊤
+IfDamage P (FaultOf fault) = ⊤
+IfDamage P (Damaged file place) = P file place

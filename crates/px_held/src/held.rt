@@ -1,17 +1,20 @@
 ghost use Rattle.std.specs.Prelude.{◌≡◌, ◌≤◌, ℕ, IfErr, IfOk, IsTrue, MatchOption, ◌↔◌};
 ghost use Rattle.px_cells.specs.Form.{is_short};
+ghost use Rattle.px_cells.specs.declared.cell.CellKind.TheVariants.{Slot};
 ghost use Rattle.px_chain.specs.Sound.{IsSlot, IsUsedRow};
 ghost use Rattle.px_chain.specs.Unused.{unused_table};
 ghost use Rattle.px_history.specs.Store.{Store};
 ghost use Rattle.px_opened.specs.Opened.{tables_of};
+ghost use Rattle.px_recs.specs.Place.{place_of, table_file};
 ghost use Rattle.px_shown.specs.Tables.{AreSound};
 ghost use Rattle.px_site.specs.State.{State};
 ghost use Rattle.px_tables.specs.Held.{table_of};
-ghost use Rattle.px_held.specs.Errors.{IsDamage};
+ghost use Rattle.px_held.specs.Errors.{IfDamage, IsDamage};
 ghost use Rattle.px_held.specs.Serving.{AreNumbered, IsTableOf, Serves};
 
 mod linking;
 mod reading;
+mod tidying;
 mod unlinking;
 
 use crate::error::HeldError;
@@ -92,7 +95,8 @@ impl Held {
     /// That a cell isn't what it has to be. No slot and no row pointer has the number 0: a link that leads there is reported at
     /// the first one's place.
     fn damage(&self, what: CellKind, table: u8, number: u32) -> HeldError
-        ensures { IsDamage result }
+        ensures damage { IsDamage result }
+        ensures slot { what ≡ Slot → 1 ≤ number → IfDamage (λ file place. (file ≡ table_file Slot table) × (place ≡ place_of self.now.short Slot number)) result }
     {
         let place = match what {
             CellKind::Header => 0,

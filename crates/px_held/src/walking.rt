@@ -1,13 +1,18 @@
-ghost use Rattle.std.specs.Prelude.{◌≡◌, find, map, option_map};
+ghost use Rattle.std.specs.Prelude.{◌≡◌, ◌≢◌, ◌↔◌, ◌≤◌, IfErr, IfOk, IsTrue, find, map, option_map};
 ghost use Rattle.px_cell_laws.specs.Reading.{view_of};
+ghost use Rattle.px_cells.specs.declared.slot.SlotState.TheVariants.{Free};
 ghost use Rattle.px_chain.specs.Sound.{IsUsedRow, Layout};
 ghost use Rattle.px_chain.specs.Visible.{is_visible};
 ghost use Rattle.px_chain_laws.specs.Reading.{is_committed};
+ghost use Rattle.px_history.specs.Fitting.{IsStoredNumber};
+ghost use Rattle.px_model.specs.declared.limits.TheConstants.{STORED_NUMBERS_END};
 ghost use Rattle.px_tables.specs.Held.{HasLayout, table_of};
+ghost use Rattle.px_held.specs.Numbers.{IsPastVersions, IsUnstored};
 
 use crate::reader::Reader;
+use px_cells::SlotState;
 use px_chain::SlotView;
-use px_model::Standing;
+use px_model::{STORED_NUMBERS_END, Standing};
 use px_tables::Table;
 use px_xacts::Xacts;
 
@@ -49,4 +54,37 @@ fn is_committed(standing: Standing) -> bool
     ensures { result ≡ is_committed standing }
 {
     matches!(standing, Standing::Committed(_))
+}
+
+/// The least number from this one on past those of all versions of a table; or the first slot whose version has no stored number.
+pub(crate) fn number_past(table: &Table, first: u64) -> Result<u64, u32>
+    requires { first ≤ STORED_NUMBERS_END }
+    ensures past { IfOk result (IsPastVersions first (table_of table.now.cells)) }
+    ensures stored { IfOk result (λ next. next ≤ STORED_NUMBERS_END) }
+    ensures unstored { IfErr result (IsUnstored (table_of table.now.cells)) }
+{
+    let mut next = first;
+    for before in 0..table.header().slots {
+        let number = before + 1;
+        let slot = table.slot(number);
+        if is_version(slot.state) {
+            if !is_stored(slot.xn) {
+                return Err(number);
+            }
+            next = next.max(slot.xn + 1);
+        }
+    }
+    Ok(next)
+}
+
+fn is_version(state: SlotState) -> bool
+    ensures { IsTrue result ↔ (state ≢ Free) }
+{
+    matches!(state, SlotState::Row | SlotState::Deletion)
+}
+
+fn is_stored(number: u64) -> bool
+    ensures { IsTrue result ↔ IsStoredNumber number }
+{
+    number >= 1 && number < STORED_NUMBERS_END
 }

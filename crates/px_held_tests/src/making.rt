@@ -1,6 +1,9 @@
-ghost use Rattle.std.specs.Prelude.{◌≡◌, [], ◌∷◌, IfOk};
+ghost use Rattle.std.specs.Prelude.{◌≡◌, [], ◌∷◌, All, IfOk};
 ghost use Rattle.px_chain.specs.Links.{IsStored};
-ghost use Rattle.px_held.specs.Serving.{AreNumbered};
+ghost use Rattle.px_chain.specs.Sound.{no_places};
+ghost use Rattle.px_held.specs.Serving.{AreNumbered, Serves};
+ghost use Rattle.px_history.specs.Store.{Store};
+ghost use Rattle.px_site.specs.State.{State};
 ghost use Rattle.px_held_tests.specs.declared.making.TheConstants.{SHORT};
 
 use px_cells::{Slot, SlotState};
@@ -8,6 +11,7 @@ use px_held::{Held, Prepared};
 use px_memsite::MemSite;
 use px_model::{Bytes, Session};
 use px_tables::{Place, Table};
+use px_tidy::Done;
 use px_xacts::{Begun, WriteAt, Xacts};
 use std::alloc::{AllocError, Global};
 use std::test::Fail;
@@ -17,11 +21,12 @@ const SHORT: u32 = 16;
 /// The greatest stored number at the opening.
 pub(crate) const BASE: u64 = 10;
 
-/// The only table of a store whose short length is `SHORT`.
+/// The only table of a store whose short length is `SHORT`. It serves a store.
 #[derive(Drop)]
-struct OneTable {
+pub(crate) struct OneTable {
     held: Held,
     ghost short: { held.short ≡ SHORT },
+    ghost serves: { (site : State) → (store : Store) × Serves site held store },
 }
 
 impl OneTable {
@@ -43,10 +48,24 @@ impl OneTable {
         self.held.lay(prepared);
         Ok(())
     }
+
+    /// Unlinks the oldest version that goes of the first row. Answers its slot, and how many cells that changes.
+    pub(crate) fn unlink_oldest(self, alloc: Global, done: &Done) -> Result<(u32, usize), Fail> {
+        let mut site = MemSite::new(alloc)?;
+        let OneTable { mut held } = self;
+        let row = held.next_row(&mut site, 1, 0)?.ok_or("no row")?;
+        let versions = held.versions_to_tidy(&mut site, 1, row, done)?;
+        let oldest = *versions.first().ok_or("none goes")?;
+        let prepared = held.prepare_unlink(&mut site, 1, row, oldest.newer, oldest.slot, 1)?;
+        let cells = held.cells_unlinked(&prepared)?.len();
+        held.lay_unlinked(prepared);
+        Ok((oldest.slot, cells))
+    }
 }
 
 fn alone(alloc: Global) -> Result<Vec<Table>, AllocError>
-    ensures { IfOk result (λ tables. AreNumbered SHORT tables.items) }
+    ensures numbered { IfOk result (λ tables. AreNumbered SHORT tables.items) }
+    ensures unused { IfOk result (λ tables. All (λ table. table.cells.header ≡ no_places) tables.items) }
 {
     let mut tables = Vec::new(alloc);
     tables.push(Table::new(alloc, 1, SHORT)?)?;
@@ -74,13 +93,18 @@ fn version(alloc: Global, place: Place, key: u8, xn: u32) -> Result<Slot, AllocE
     })
 }
 
-/// Tables that hold versions of these keys, the oldest first.
-pub(crate) fn held(alloc: Global, versions: &[(u8, u32)]) -> Result<Held, Fail> {
+/// A table that holds versions of these keys, the oldest first.
+pub(crate) fn one_table(alloc: Global, versions: &[(u8, u32)]) -> Result<OneTable, Fail> {
     let mut one = OneTable::new(alloc)?;
     for (key, xn) in versions {
         one.link(alloc, *key, *xn)?;
     }
-    Ok(one.held)
+    Ok(one)
+}
+
+/// The same, as tables.
+pub(crate) fn held(alloc: Global, versions: &[(u8, u32)]) -> Result<Held, Fail> {
+    Ok(one_table(alloc, versions)?.held)
 }
 
 /// The transactions since the opening: the first wrote a row and committed, the second one is open.

@@ -33,6 +33,7 @@ impl Held {
         ensures which { IfOk result (λ prepared. prepared.unlinking.row ≡ row × prepared.unlinking.first ≡ first × prepared.unlinking.count ≡ count) }
         ensures form { HasSameForm self.old self.new }
         ensures keeps { W.tells → (store : Store) → Serves (W.state site.old) self.old store → Serves (W.state site.new) self.new store }
+        ensures still { (store : Store) → Serves (W.state site.old) self.old store → Serves (W.state site.new) self.new store }
         ensures same { W.tells → W.state site.new ≡ W.state site.old }
         ensures sound { IfErr result IsPassing }
         ensures fault { IfErr result (HasReadCause (W.counts site.old) (W.counts site.new)) }

@@ -1,0 +1,5 @@
+pub mod Fresh
+pub mod Frames
+pub mod Lasting
+pub mod Steps
+pub mod Unlinks

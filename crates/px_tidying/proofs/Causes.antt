@@ -1,0 +1,65 @@
+-- The causes of errors, and that none is damage where the cells are sound.
+use Rattle.std.proofs.Common.{◌≡◌, ℕ, ◌≤◌, Some, None, Option, IfErr, Result, Ok, Err, sym, ap, subst, ◌∙◌, arith, refl, inl, inr}
+use Rattle.std.specs.Prelude.{cond, is_some, nat_lt, unwrap_or}
+use Rattle.std.proofs.lemmas.Bool.{cases_Bool, false≢true, ltb-false}
+use Rattle.px_held.specs.Errors as held
+use Rattle.px_held.specs.declared.error.HeldError.{HeldError}
+use Rattle.px_held.specs.declared.error.HeldError.TheVariants as held_errors
+use Rattle.px_log.specs.Errors.{HasLogCause}
+use Rattle.px_log.specs.Log.{Log, full_at, most_frames}
+use Rattle.px_log.specs.declared.error.LogError.{LogError}
+use Rattle.px_log.specs.declared.error.LogError.TheVariants as log_errors
+use Rattle.px_site.specs.Cause.{Counts, HasCause, NoneFell, Rose}
+use Rattle.px_site.specs.declared.error.SiteError.{SiteError}
+use Rattle.px_site.specs.declared.error.SiteError.TheVariants as site_errors
+use Rattle.px_tidying.specs.Errors.{HasTidyCause, IsPassing, of_held, of_log, of_site}
+use Rattle.px_tidying.specs.declared.error.TidyError.{TidyError}
+use Rattle.px_tidying.specs.declared.error.TidyError.TheVariants.{OutOfMemory, Fault, LogFull, Damaged}
+
+-- ---- causes
+
+pub held_cause : (old new : Counts) (e : HeldError) → held.HasReadCause old new e → HasTidyCause old new (of_held e)
+held_cause old new held_errors.OutOfMemory cause = tt
+held_cause old new (held_errors.Fault fault) cause = subst (λ f. Rose (old.faults f) (new.faults f)) (sym cause.0) cause.1
+held_cause old new (held_errors.Damaged file place) cause = tt
+
+full_from : (log : Log) (frame : ℕ) → full_at log ≡ Some frame → most_frames ≤ frame
+full_from log frame full = elim (cases_Bool (nat_lt log.frames most_frames)) [
+  | inl below ↦ absurd (false≢true (ap is_some (sym (ap (λ b. cond b None (Some log.frames)) below) ∙ full)))
+  | inr past ↦
+      let same : log.frames ≡ frame = ap (λ (o : Option ℕ). unwrap_or o 0) (sym (ap (λ b. cond b None (Some log.frames)) past) ∙ full) in
+      let from : most_frames ≤ log.frames = ltb-false log.frames most_frames past in
+      subst (λ (n : ℕ). most_frames ≤ n) same from
+]
+
+pub log_cause : (log : Log) (old new : Counts) (e : LogError) → HasLogCause log old new e → HasTidyCause old new (of_log e)
+log_cause log old new log_errors.OutOfMemory cause = tt
+log_cause log old new (log_errors.Fault fault) cause = cause
+log_cause log old new (log_errors.LogFull frame) cause = full_from log frame cause
+
+pub site_cause : (old new : Counts) (e : SiteError) → HasCause old new e → HasTidyCause old new (of_site e)
+site_cause old new site_errors.OutOfMemory cause = tt
+site_cause old new (site_errors.Fault fault) cause = cause.fault fault refl
+
+-- a later call's error has its cause from an earlier start on
+pub earlier_tidy_cause : (old middle new : Counts) (e : TidyError) → NoneFell old middle → HasTidyCause middle new e → HasTidyCause old new e
+earlier_tidy_cause old middle new OutOfMemory fell cause = tt
+earlier_tidy_cause old middle new (Fault fault) fell cause = omega (arith, fell.faults fault, cause)
+earlier_tidy_cause old middle new (LogFull frame) fell cause = cause
+earlier_tidy_cause old middle new (Damaged file place) fell cause = tt
+
+-- ---- no damage
+
+pub held_passes : (e : HeldError) → held.IsPassing e → IsPassing (of_held e)
+held_passes held_errors.OutOfMemory passes = tt
+held_passes (held_errors.Fault fault) passes = tt
+held_passes (held_errors.Damaged file place) passes = passes
+
+pub log_passes : (e : LogError) → IsPassing (of_log e)
+log_passes log_errors.OutOfMemory = tt
+log_passes (log_errors.Fault fault) = tt
+log_passes (log_errors.LogFull frame) = tt
+
+pub site_passes : (e : SiteError) → IsPassing (of_site e)
+site_passes site_errors.OutOfMemory = tt
+site_passes (site_errors.Fault fault) = tt

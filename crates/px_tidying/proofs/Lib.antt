@@ -1,0 +1,10 @@
+pub mod Causes
+pub mod Composing
+pub mod Flushing
+pub mod Going
+pub mod Loops
+pub mod Made
+pub mod Next
+pub mod Past
+pub mod Readying
+pub mod Rows

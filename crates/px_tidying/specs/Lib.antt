@@ -1,0 +1,4 @@
+pub mod Errors
+pub mod Going
+pub mod Numbers
+pub mod Opening
