@@ -1,4 +1,4 @@
-ghost use Rattle.std.specs.Prelude.{◌≡◌, [], ◌∷◌, All, IfOk};
+ghost use Rattle.std.specs.Prelude.{◌≡◌, [], ◌∷◌, All, IfOk, OnOk};
 ghost use Rattle.px_chain.specs.Links.{IsStored};
 ghost use Rattle.px_chain.specs.Sound.{no_places};
 ghost use Rattle.px_held.specs.Serving.{AreNumbered, Serves};
@@ -21,46 +21,22 @@ const SHORT: u32 = 16;
 /// The greatest stored number at the opening.
 pub(crate) const BASE: u64 = 10;
 
-/// The only table of a store whose short length is `SHORT`. It serves a store.
-#[derive(Drop)]
-pub(crate) struct OneTable {
-    held: Held,
-    ghost short: { held.short ≡ SHORT },
-    ghost serves: { (site : State) → (store : Store) × Serves site held store },
-}
-
-impl OneTable {
-    fn new(alloc: Global) -> Result<OneTable, AllocError> {
-        let held = Held::new(SHORT, alone(alloc)?);
-        Ok(OneTable { held })
-    }
-
-    /// Links a version of the row with this key of one byte, whose tag is the writer's number.
-    fn link(&mut self, alloc: Global, key: u8, xn: u32) -> Result<(), Fail> {
-        let mut site = MemSite::new(alloc)?;
-        let place = self
-            .held
-            .place_for(&mut site, 1, &[key])?
-            .ok_or("the table is full")?;
-        let slot = version(alloc, place, key, xn)?;
-        let prepared = Prepared::link(1, place, slot);
-        let _cells = self.held.cells_of(&prepared)?;
-        self.held.lay(prepared);
-        Ok(())
-    }
-
-    /// Unlinks the oldest version that goes of the first row. Answers its slot, and how many cells that changes.
-    pub(crate) fn unlink_oldest(self, alloc: Global, done: &Done) -> Result<(u32, usize), Fail> {
-        let mut site = MemSite::new(alloc)?;
-        let OneTable { mut held } = self;
-        let row = held.next_row(&mut site, 1, 0)?.ok_or("no row")?;
-        let versions = held.versions_to_tidy(&mut site, 1, row, done)?;
-        let oldest = *versions.first().ok_or("none goes")?;
-        let prepared = held.prepare_unlink(&mut site, 1, row, oldest.newer, oldest.slot, 1)?;
-        let cells = held.cells_unlinked(&prepared)?.len();
-        held.lay_unlinked(prepared);
-        Ok((oldest.slot, cells))
-    }
+/// Links a version of the row with this key of one byte in the only table, whose tag is the writer's number.
+fn link(held: &mut Held, alloc: Global, key: u8, xn: u32) -> Result<(), Fail>
+    requires short { held.old.short ≡ SHORT }
+    requires serves { (site : State) → (store : Store) × Serves site held.old store }
+    ensures short { OnOk result (held.new.short ≡ SHORT) }
+    ensures serves { OnOk result ((site : State) → (store : Store) × Serves site held.new store) }
+{
+    let mut site = MemSite::new(alloc)?;
+    let place = held
+        .place_for(&mut site, 1, &[key])?
+        .ok_or("the table is full")?;
+    let slot = version(alloc, place, key, xn)?;
+    let prepared = Prepared::link(1, place, slot);
+    let _cells = held.cells_of(&prepared)?;
+    held.lay(prepared);
+    Ok(())
 }
 
 fn alone(alloc: Global) -> Result<Vec<Table>, AllocError>
@@ -93,18 +69,33 @@ fn version(alloc: Global, place: Place, key: u8, xn: u32) -> Result<Slot, AllocE
     })
 }
 
-/// A table that holds versions of these keys, the oldest first.
-pub(crate) fn one_table(alloc: Global, versions: &[(u8, u32)]) -> Result<OneTable, Fail> {
-    let mut one = OneTable::new(alloc)?;
+/// Tables that hold versions of these keys, the oldest first. They serve a store.
+pub(crate) fn held(alloc: Global, versions: &[(u8, u32)]) -> Result<Held, Fail>
+    ensures { IfOk result (λ held. (site : State) → (store : Store) × Serves site held store) }
+{
+    let mut held = Held::new(SHORT, alone(alloc)?);
     for (key, xn) in versions {
-        one.link(alloc, *key, *xn)?;
+        link(&mut held, alloc, *key, *xn)?;
     }
-    Ok(one)
+    Ok(held)
 }
 
-/// The same, as tables.
-pub(crate) fn held(alloc: Global, versions: &[(u8, u32)]) -> Result<Held, Fail> {
-    Ok(one_table(alloc, versions)?.held)
+/// Unlinks the oldest version that goes of the first row. Answers its slot, and how many cells that changes.
+pub(crate) fn unlink_oldest(
+    held: &mut Held,
+    alloc: Global,
+    done: &Done,
+) -> Result<(u32, usize), Fail>
+    requires { (site : State) → (store : Store) × Serves site held.old store }
+{
+    let mut site = MemSite::new(alloc)?;
+    let row = held.next_row(&mut site, 1, 0)?.ok_or("no row")?;
+    let versions = held.versions_to_tidy(&mut site, 1, row, done)?;
+    let oldest = *versions.first().ok_or("none goes")?;
+    let prepared = held.prepare_unlink(&mut site, 1, row, oldest.newer, oldest.slot, 1)?;
+    let cells = held.cells_unlinked(&prepared)?;
+    held.lay_unlinked(prepared);
+    Ok((oldest.slot, cells.as_slice().len()))
 }
 
 /// The transactions since the opening: the first wrote a row and committed, the second one is open.

@@ -1,4 +1,4 @@
-use crate::making::one_table;
+use crate::making::{held, unlink_oldest};
 use px_tidy::Done;
 use std::process::Abort;
 use std::test::Fail;
@@ -12,8 +12,8 @@ const VERSIONS: [(u8, u32); 4] = [(b'a', 3), (b'c', 4), (b'a', 11), (b'a', 12)];
 /// Of the two versions that go, the older one is unlinked first: the header changes, its slot, and the slot in front of it.
 #[test]
 fn the_oldest_version_goes_first(rt: HostRuntime) -> Result<(), Fail> {
-    let one = one_table(rt.alloc(), &VERSIONS)?;
+    let mut held = held(rt.alloc(), &VERSIONS)?;
     let done = Done::new(rt.alloc(), LOW);
-    assert_eq!(rt; one.unlink_oldest(rt.alloc(), &done)?, (3, 3));
+    assert_eq!(rt; unlink_oldest(&mut held, rt.alloc(), &done)?, (3, 3));
     Ok(())
 }
