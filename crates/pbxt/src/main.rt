@@ -1,5 +1,6 @@
 //! The program: the words of its command line, standard input, and a store in the folder `pbxt-store` of the folder that it
-//! runs in (docs/FORMATS.md). What it does is `pbxt_run`'s contract; its exit status is the status's code.
+//! runs in (docs/FORMATS.md). What it does is `pbxt_run`'s contract; its exit status is the status's code. Where the system
+//! refused something, a line on standard error says what and why.
 #![tactic(auto)]
 
 use px_calls::Status;
@@ -9,7 +10,7 @@ use px_run::pbxt_run;
 use px_source::StdinSource;
 use std::alloc::AllocError;
 use std::env;
-use std::io::ErrorKind;
+use std::io::{self, ErrorKind};
 use std::process::ExitCode;
 
 /// Where the store's files lie.
@@ -28,7 +29,28 @@ fn run(rt: &HostRuntime) -> Result<Status, AllocError> {
     let words = words_of(rt)?;
     let mut source = StdinSource::new(rt.clone()?);
     let mut site = RealSite::new(rt.clone()?, FOLDER)?;
-    Ok(pbxt_run(rt.alloc(), &words, &mut source, &mut site))
+    let status = pbxt_run(rt.alloc(), &words, &mut source, &mut site);
+    match status {
+        Status::DiskFault(_) => tell_refusal(rt, &site),
+        Status::SourceFault => tell_stream(rt, "standard input", source.refusal()),
+        Status::OutputFault => tell_stream(rt, "standard output", site.tell_refusal()),
+        _ => {}
+    }
+    Ok(status)
+}
+
+/// Says which file the system refused, and why. Where that can't be said either, the status has to do.
+fn tell_refusal(rt: &HostRuntime, site: &RealSite<HostRuntime>) {
+    if let Ok(Some(refusal)) = site.refusal() {
+        let _ = eprintln!(rt; "pbxt: {refusal}");
+    }
+}
+
+/// Says why a stream was refused.
+fn tell_stream(rt: &HostRuntime, stream: &str, refusal: Option<io::Error>) {
+    if let Some(error) = refusal {
+        let _ = eprintln!(rt; "pbxt: {stream}: {error}");
+    }
 }
 
 /// The words of the command line, without the program's name. Where one is no text, no word: they are no command.

@@ -1,8 +1,7 @@
 -- What a folder remembers from call to call.
-use Rattle.std.specs.Prelude.{◌≡◌, true}
+use Rattle.std.specs.Prelude.{◌≡◌}
 use Rattle.px_realsite.specs.declared.folder.Folder.{Folder}
 
--- which folder it is, and that a sync failed
-pub record Remembers (before now : Folder) : Type 0 where
-  pub path : now.path ≡ before.path
-  pub failure : before.sync_failed ≡ true → now.sync_failed ≡ true
+-- which folder it is
+abbrev pub IsSameFolder : Folder → Folder → Type 0
+IsSameFolder before now = now.path ≡ before.path

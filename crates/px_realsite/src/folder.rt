@@ -1,11 +1,12 @@
-//! The folder of a site. It answers the system's errors as they are; what they count as is said in `real_site`.
-ghost use Rattle.std.specs.Prelude.{◌≡◌, ◌<◌, ◌≤◌, ◌+◌, length, vec_len, string_bytes, IfOk, IfSome, IfNone, OnOk, OnSome, None, true, false, ◌||◌, is_err, IsErr};
+//! The folder of a site. It answers the system's errors as they are; what they count as is said in `refusals`.
+ghost use Rattle.std.specs.Prelude.{◌≡◌, ◌<◌, ◌≤◌, ◌+◌, ◌-◌, ◌⊎◌, length, min, vec_len, string_bytes, IfOk, IfSome, IfNone, OnOk, OnSome, None, true};
 ghost use Rattle.px_site.specs.State.{IsListed};
 ghost use Rattle.px_realsite.specs.OpenFiles.{IsNamed};
 ghost use Rattle.px_realsite.specs.Path.{path_or_current};
-ghost use Rattle.px_realsite.specs.Traffic.{Asked, Moved, NoBytes, OnlyReads, OnlyWrites};
+ghost use Rattle.px_realsite.specs.Piece.{EndsWith};
+ghost use Rattle.px_realsite.specs.Traffic.{Asked, FoundNone, IsDurable, IsLocked, IsWhole, Moved, NoBytes, OnlyReads, OnlyWrites, SyncedFile};
 
-use crate::open_files::{MOST_OPEN, OpenFiles};
+use crate::open_files::OpenFiles;
 use crate::path::path_of;
 use crate::system::System;
 use crate::walk::Walk;
@@ -15,39 +16,32 @@ use std::fs::File;
 use std::io::{self, ErrorKind};
 use std::rt::Files;
 
-/// A folder of files. It is made by the first write; until then it may be missing, and then it reads as an empty one.
+/// A folder of files. It is made by the first write; until then it may be missing, and then it reads as an empty one. Each call
+/// takes its lock first, where it is there.
 #[derive(Drop)]
 pub(crate) struct Folder {
     path: String,
     handles: OpenFiles,
     walk: Option<Walk>,
-    /// Whether each name that came or went is durable. At the start it isn't known: an earlier process may have left one.
-    names_synced: bool,
-    /// Whether the folder's own name is durable in the folder above it. At the start it isn't known either.
-    folder_synced: bool,
-    /// Whether a sync failed. From then on no sync is answered as done: the system drops what it couldn't write, and a later
-    /// sync would pass over it.
-    sync_failed: bool,
 }
 
 impl Folder {
-    ghost use Rattle.px_realsite.specs.Folder.{Remembers};
+    ghost use Rattle.px_realsite.specs.Folder.{IsSameFolder};
 
     /// The folder of this path, the current one where the path is empty.
     pub(crate) fn new(alloc: Global, path: &str) -> Result<Folder, AllocError>
-        ensures over { IfOk result (λ folder. string_bytes folder.path ≡ path_or_current path.now) }
-        ensures names { IfOk result (λ folder. folder.names_synced ≡ false) }
-        ensures folder { IfOk result (λ folder. folder.folder_synced ≡ false) }
+        ensures { IfOk result (λ folder. string_bytes folder.path ≡ path_or_current path.now) }
     {
         let path = if path.is_empty() { "." } else { path };
         Ok(Folder {
             path: String::from_str(alloc, path)?,
             handles: OpenFiles::new(alloc)?,
             walk: None,
-            names_synced: false,
-            folder_synced: false,
-            sync_failed: false,
         })
+    }
+
+    pub(crate) fn path(&self) -> &str {
+        self.path.as_str()
     }
 
     pub(crate) fn len<R: Files<File = File> + AllocGlobal>(
@@ -57,8 +51,9 @@ impl Folder {
     ) -> io::Result<u64>
         ensures bound { IfOk result (λ len. len ≤ LONGEST_FILE) }
         ensures asked { OnOk result (Asked system.old.traffic system.new.traffic) }
+        ensures locked { OnOk result (IsLocked system.old.traffic system.new.traffic) }
         ensures no_bytes { NoBytes system.old.traffic system.new.traffic }
-        ensures remembered { Remembers self.old self.new }
+        ensures same_folder { IsSameFolder self.old self.new }
     {
         match self.find(system, name)? {
             Some(at) => self.handles.files[at].len(system),
@@ -73,23 +68,23 @@ impl Folder {
         place: u64,
         buf: &mut [u8],
     ) -> io::Result<usize>
+        requires { place < LONGEST_FILE }
         ensures bound { IfOk result (λ count. count ≤ length buf.new) }
-        ensures asked { place < LONGEST_FILE → 0 < length buf.new
-            → OnOk result (Asked system.old.traffic system.new.traffic) }
+        ensures asked { 0 < length buf.new → OnOk result (Asked system.old.traffic system.new.traffic) }
         ensures moved { IfOk result (Moved system.old.traffic.bytes_read system.new.traffic.bytes_read) }
+        ensures piece { IfOk result (λ count. 0 < count → EndsWith name place count system.new.read) }
+        ensures whole { IfOk result (λ count. IsWhole count (min (length buf.new) (LONGEST_FILE - place)) system.old.traffic system.new.traffic) }
+        ensures locked { OnOk result (IsLocked system.old.traffic system.new.traffic) }
         ensures only_reads { OnlyReads system.old.traffic system.new.traffic }
-        ensures remembered { Remembers self.old self.new }
+        ensures same_folder { IsSameFolder self.old self.new }
     {
-        if place >= LONGEST_FILE {
-            return Ok(0);
-        }
         match self.find(system, name)? {
             Some(at) => self.handles.files[at].read_at(system, place, buf),
             None => Ok(0),
         }
     }
 
-    pub(crate) fn write_at<R: Files<File = File> + AllocGlobal>(
+    pub(crate) fn write_at<R: Files<File = File> + AllocGlobal + Clone + Drop>(
         &mut self,
         system: &mut System<R>,
         name: FileName,
@@ -100,13 +95,13 @@ impl Folder {
         ensures asked { OnOk result (Asked system.old.traffic system.new.traffic) }
         ensures moved { OnOk result
             (Moved system.old.traffic.bytes_written system.new.traffic.bytes_written (length bytes.now)) }
+        ensures piece { 0 < length bytes.now
+            → OnOk result (EndsWith name place (length bytes.now) system.new.written) }
+        ensures locked { OnOk result (system.new.traffic.is_held ≡ true) }
         ensures only_writes { OnlyWrites system.old.traffic system.new.traffic }
-        ensures remembered { Remembers self.old self.new }
+        ensures same_folder { IsSameFolder self.old self.new }
     {
-        let at = match self.find(system, name)? {
-            Some(at) => at,
-            None => self.make(system, name)?,
-        };
+        let at = self.find_or_make(system, name)?;
         self.handles.files[at].write_at(system, place, bytes)
     }
 
@@ -117,8 +112,9 @@ impl Folder {
         len: u64,
     ) -> io::Result<()>
         ensures asked { OnOk result (Asked system.old.traffic system.new.traffic) }
+        ensures locked { OnOk result (IsLocked system.old.traffic system.new.traffic) }
         ensures no_bytes { NoBytes system.old.traffic system.new.traffic }
-        ensures remembered { Remembers self.old self.new }
+        ensures same_folder { IsSameFolder self.old self.new }
     {
         match self.find(system, name)? {
             Some(at) => self.handles.files[at].cut(system, len),
@@ -126,24 +122,25 @@ impl Folder {
         }
     }
 
-    /// Makes the file durable, and with it the names of the folder. Once a sync failed, it answers an error for ever.
+    /// Makes the file durable, and with it the names of the folder. Once a sync failed, it answers an error for ever: the system
+    /// drops what it couldn't write, and a later sync would pass over it.
     pub(crate) fn sync<R: Files<File = File> + AllocGlobal>(
         &mut self,
         system: &mut System<R>,
         name: FileName,
     ) -> io::Result<()>
-        ensures names { OnOk result (self.new.names_synced ≡ true) }
-        ensures folder { OnOk result (self.new.folder_synced ≡ true) }
-        ensures none_failed { OnOk result (self.new.sync_failed ≡ false) }
-        ensures refused { self.old.sync_failed ≡ true → IsErr result }
+        ensures durable { OnOk result (IsDurable name system.old.traffic system.new.traffic) }
         ensures asked { OnOk result (Asked system.old.traffic system.new.traffic) }
+        ensures locked { OnOk result (IsLocked system.old.traffic system.new.traffic) }
         ensures no_bytes { NoBytes system.old.traffic system.new.traffic }
-        ensures remembered { Remembers self.old self.new }
+        ensures same_folder { IsSameFolder self.old self.new }
     {
-        self.sync_file(system, name)?;
-        self.sync_names(system)?;
-        if self.sync_failed {
-            return Err(ErrorKind::Other.into());
+        if system.hold(self.path.as_str())? {
+            self.sync_file(system, name)?;
+            self.sync_names(system)?;
+        }
+        if system.traffic().syncs.has_failed {
+            return Err(io::Error::other("an earlier sync failed"));
         }
         Ok(())
     }
@@ -153,55 +150,52 @@ impl Folder {
         system: &mut System<R>,
         name: FileName,
     ) -> io::Result<()>
+        ensures content { OnOk result (SyncedFile name system.old.traffic system.new.traffic
+            ⊎ FoundNone system.old.traffic system.new.traffic) }
         ensures asked { OnOk result (Asked system.old.traffic system.new.traffic) }
         ensures no_bytes { NoBytes system.old.traffic system.new.traffic }
-        ensures remembered { Remembers self.old self.new }
+        ensures same_folder { IsSameFolder self.old self.new }
     {
         match self.find(system, name)? {
-            Some(at) => {
-                let synced = self.handles.files[at].sync(system);
-                self.note(synced)
-            }
+            Some(at) => self.handles.files[at].sync(system),
             None => Ok(()),
         }
     }
 
     /// Makes the names durable that came and went: those in the folder, and the folder's own in the one above.
     fn sync_names<R: Files<File = File> + AllocGlobal>(
-        &mut self,
+        &self,
         system: &mut System<R>,
     ) -> io::Result<()>
-        ensures names { OnOk result (self.new.names_synced ≡ true) }
-        ensures folder { OnOk result (self.new.folder_synced ≡ true) }
+        requires { system.old.traffic.is_held ≡ true }
+        ensures names { OnOk result (system.new.traffic.syncs.are_names_durable ≡ true) }
+        ensures folder { OnOk result (system.new.traffic.syncs.is_folder_durable ≡ true) }
+        ensures no_file { system.new.traffic.syncs.last ≡ system.old.traffic.syncs.last }
         ensures no_bytes { NoBytes system.old.traffic system.new.traffic }
-        ensures remembered { Remembers self.old self.new }
     {
-        if !self.names_synced {
-            self.sync_folder(system, ".")?;
-            self.names_synced = true;
+        if !system.traffic().syncs.are_names_durable {
+            system.sync_names()?;
         }
-        if !self.folder_synced {
-            self.sync_folder(system, "..")?;
-            self.folder_synced = true;
+        if !system.traffic().syncs.is_folder_durable {
+            self.sync_above(system)?;
         }
         Ok(())
     }
 
-    /// Syncs the folder to which this step leads. Where this folder isn't there, it has no names to sync.
-    fn sync_folder<R: Files<File = File> + AllocGlobal>(
-        &mut self,
+    /// Makes the names in the folder above durable.
+    fn sync_above<R: Files<File = File> + AllocGlobal>(
+        &self,
         system: &mut System<R>,
-        step: &str,
     ) -> io::Result<()>
-        ensures names { self.new.names_synced ≡ self.old.names_synced }
+        ensures names { system.new.traffic.syncs.are_names_durable ≡ system.old.traffic.syncs.are_names_durable }
+        ensures folder { OnOk result (system.new.traffic.syncs.is_folder_durable ≡ true) }
+        ensures no_file { system.new.traffic.syncs.last ≡ system.old.traffic.syncs.last }
         ensures no_bytes { NoBytes system.old.traffic system.new.traffic }
-        ensures remembered { Remembers self.old self.new }
     {
-        let path = format!(in system.alloc(); "{}/{step}", self.path.as_str())?;
-        match system.open_folder(path.as_str()) {
-            Ok(folder) => self.note(system.sync_folder(&folder)),
-            Err(error) if error.kind() == ErrorKind::NotFound && self.handles.is_empty() => Ok(()),
-            Err(error) => Err(error),
+        let path = format!(in system.alloc(); "{}/..", self.path.as_str())?;
+        match system.open_folder(path.as_str())? {
+            Some(above) => system.sync_above(&above),
+            None => Err(ErrorKind::NotFound.into()),
         }
     }
 
@@ -212,21 +206,25 @@ impl Folder {
         name: FileName,
     ) -> io::Result<()>
         ensures asked { OnOk result (Asked system.old.traffic system.new.traffic) }
+        ensures locked { OnOk result (IsLocked system.old.traffic system.new.traffic) }
         ensures no_bytes { NoBytes system.old.traffic system.new.traffic }
-        ensures remembered { Remembers self.old self.new }
+        ensures same_folder { IsSameFolder self.old self.new }
     {
+        if !system.hold(self.path.as_str())? {
+            return Ok(());
+        }
         let path = path_of(system.alloc(), self.path.as_str(), name)?;
         match system.remove_file(path.as_str()) {
-            Ok(()) => self.names_synced = false,
-            Err(error) if error.kind() == ErrorKind::NotFound => {}
-            Err(error) => return Err(error),
+            Err(error) if error.kind() != ErrorKind::NotFound => Err(error),
+            _ => {
+                self.handles.forget(name);
+                Ok(())
+            }
         }
-        self.handles.forget(name);
-        Ok(())
     }
 
     /// The least name after this one whose file has a byte. A listing that goes on from name to name reads the folder once.
-    pub(crate) fn list<R: Files + AllocGlobal + Clone + Drop>(
+    pub(crate) fn list<R: Files<File = File> + AllocGlobal + Clone + Drop>(
         &mut self,
         system: &mut System<R>,
         after: Option<FileName>,
@@ -234,9 +232,13 @@ impl Folder {
         ensures bound { IfOk result (λ found. IfSome found (IsListed after)) }
         ensures asked { IfNone after (OnOk result (Asked system.old.traffic system.new.traffic)) }
         ensures looked { IfOk result (λ found. OnSome found (Asked system.old.traffic system.new.traffic)) }
+        ensures locked { OnOk result (IsLocked system.old.traffic system.new.traffic) }
         ensures no_bytes { NoBytes system.old.traffic system.new.traffic }
-        ensures remembered { Remembers self.old self.new }
+        ensures same_folder { IsSameFolder self.old self.new }
     {
+        if !system.hold(self.path.as_str())? {
+            return Ok(None);
+        }
         let mut walk = self.take_walk(system, after)?;
         let found = walk.next(system, self.path.as_str(), after)?;
         if found.is_some() {
@@ -251,9 +253,10 @@ impl Folder {
         system: &mut System<R>,
         after: Option<FileName>,
     ) -> io::Result<Walk>
+        requires { system.old.traffic.is_held ≡ true }
         ensures asked { IfNone after (Asked system.old.traffic system.new.traffic) }
         ensures no_bytes { NoBytes system.old.traffic system.new.traffic }
-        ensures remembered { Remembers self.old self.new }
+        ensures same_folder { IsSameFolder self.old self.new }
     {
         match self.walk.take() {
             Some(walk) if walk.goes_on_after(after) => Ok(walk),
@@ -269,71 +272,63 @@ impl Folder {
     ) -> io::Result<Option<usize>>
         ensures within { IfOk result (λ found. IfSome found (λ at. at < vec_len self.new.handles.files)) }
         ensures named { IfOk result (λ found. IfSome found (IsNamed self.new.handles.files.items name)) }
-        ensures asked { IfOk result (λ found. IfNone found (Asked system.old.traffic system.new.traffic)) }
+        ensures locked { IfOk result (λ found. OnSome found (system.new.traffic.is_held ≡ true)) }
+        ensures absent { IfOk result (λ found. IfNone found (FoundNone system.old.traffic system.new.traffic)) }
         ensures no_bytes { NoBytes system.old.traffic system.new.traffic }
-        ensures remembered { Remembers self.old self.new }
+        ensures same_folder { IsSameFolder self.old self.new }
     {
+        if !system.hold(self.path.as_str())? {
+            return Ok(None);
+        }
         if let Some(at) = self.handles.position(name) {
             return Ok(Some(at));
         }
         let path = path_of(system.alloc(), self.path.as_str(), name)?;
-        self.make_room(system);
-        match system.open(path.as_str()) {
-            Ok(handle) => Ok(Some(self.handles.add(name, handle))),
-            Err(error) if error.kind() == ErrorKind::NotFound => Ok(None),
-            Err(error) => Err(error),
+        self.handles.make_room(system);
+        match system.open(path.as_str(), name)? {
+            Some(handle) => Ok(Some(self.handles.add(handle))),
+            None => Ok(None),
         }
     }
 
-    /// Makes the file, and the folder where that isn't there, and answers where the file stands.
-    fn make<R: Files<File = File> + AllocGlobal>(
+    /// Where the file stands, which is made if it isn't there.
+    fn find_or_make<R: Files<File = File> + AllocGlobal + Clone + Drop>(
         &mut self,
         system: &mut System<R>,
         name: FileName,
     ) -> io::Result<usize>
         ensures within { IfOk result (λ at. at < vec_len self.new.handles.files) }
         ensures named { IfOk result (IsNamed self.new.handles.files.items name) }
-        ensures unsynced { OnOk result (self.new.names_synced ≡ false) }
-        ensures no_walk { OnOk result (self.new.walk ≡ None) }
-        ensures asked { OnOk result (Asked system.old.traffic system.new.traffic) }
+        ensures locked { OnOk result (system.new.traffic.is_held ≡ true) }
         ensures no_bytes { NoBytes system.old.traffic system.new.traffic }
-        ensures remembered { Remembers self.old self.new }
+        ensures same_folder { IsSameFolder self.old self.new }
+    {
+        match self.find(system, name)? {
+            Some(at) => Ok(at),
+            None => self.make(system, name),
+        }
+    }
+
+    /// Makes the file, and the folder where that isn't there, and answers where the file stands.
+    fn make<R: Files<File = File> + AllocGlobal + Clone + Drop>(
+        &mut self,
+        system: &mut System<R>,
+        name: FileName,
+    ) -> io::Result<usize>
+        ensures within { IfOk result (λ at. at < vec_len self.new.handles.files) }
+        ensures named { IfOk result (IsNamed self.new.handles.files.items name) }
+        ensures locked { OnOk result (system.new.traffic.is_held ≡ true) }
+        ensures no_walk { OnOk result (self.new.walk ≡ None) }
+        ensures no_bytes { NoBytes system.old.traffic system.new.traffic }
+        ensures same_folder { IsSameFolder self.old self.new }
     {
         let path = path_of(system.alloc(), self.path.as_str(), name)?;
         self.walk = None;
-        self.names_synced = false;
-        self.make_room(system);
-        let handle = match system.create(path.as_str()) {
-            Err(error) if error.kind() == ErrorKind::NotFound => {
-                self.folder_synced = false;
-                system.create_folder(self.path.as_str())?;
-                system.create(path.as_str())?
-            }
-            created => created?,
-        };
-        Ok(self.handles.add(name, handle))
-    }
-
-    /// Closes a file where no other may be opened.
-    fn make_room<R>(&mut self, system: &mut System<R>)
-        ensures room { vec_len self.new.handles.files < MOST_OPEN }
-        ensures names { self.new.names_synced ≡ self.old.names_synced }
-        ensures walk { self.new.walk ≡ self.old.walk }
-        ensures no_bytes { NoBytes system.old.traffic system.new.traffic }
-        ensures remembered { Remembers self.old self.new }
-    {
-        let closed = self.handles.make_room(system);
-        self.sync_failed = self.sync_failed || closed.is_err();
-    }
-
-    /// Passes on what a sync answered, and remembers that one failed.
-    fn note(&mut self, synced: io::Result<()>) -> io::Result<()>
-        ensures value { result ≡ synced }
-        ensures noted { self.new.sync_failed ≡ (self.old.sync_failed || is_err synced) }
-        ensures names { self.new.names_synced ≡ self.old.names_synced }
-        ensures remembered { Remembers self.old self.new }
-    {
-        self.sync_failed = self.sync_failed || synced.is_err();
-        synced
+        if !system.traffic().is_held {
+            system.make_folder(self.path.as_str())?;
+        }
+        self.handles.make_room(system);
+        let handle = system.create(path.as_str(), name)?;
+        Ok(self.handles.add(handle))
     }
 }

@@ -1,23 +1,25 @@
 //! A folder and standard output as a site.
-ghost use Rattle.std.specs.Prelude.{◌≡◌, ◌≢◌, ◌<◌, ◌≤◌, ◌+◌, ◌↔◌, [], length, IfOk, IfSome, IfNone, OnOk, OnSome, IsErrOf, IsTrue};
-ghost use Rattle.std.specs.IoError.{error_kind};
+ghost use Rattle.std.specs.Prelude.{◌≡◌, ◌<◌, ◌≤◌, ◌+◌, ◌-◌, [], length, min, true, IfOk, IfSome, IfNone, OnOk, OnSome};
 ghost use Rattle.px_site.specs.Cause.{Counted, TellCounted};
 ghost use Rattle.px_site.specs.Disk.{at_rest};
 ghost use Rattle.px_site.specs.State.{IsListed};
-ghost use Rattle.px_site.specs.Tally.{counts_of};
-ghost use Rattle.px_realsite.specs.Traffic.{Asked, Moved, NoBytes, OnlyReads, OnlyTells, OnlyWrites, no_traffic};
+ghost use Rattle.px_realsite.specs.Piece.{EndsWith};
+ghost use Rattle.px_realsite.specs.Traffic.{Asked, IsDurable, IsLocked, IsWhole, Moved, NoBytes, OnlyReads, OnlyTells, OnlyWrites, no_traffic};
 
 use crate::folder::Folder;
+use crate::refusals::Refusals;
 use crate::system::{System, Traffic};
-use px_site::{Fault, FileName, LONGEST_FILE, Site, SiteError, Tally};
+use px_site::{Fault, FileName, LONGEST_FILE, Site, SiteError};
 use std::alloc::AllocError;
 use std::fs::File;
 use std::io::{self, ErrorKind};
 use std::rt::Files;
 
 /// The files of a folder, and standard output. The folder is made by the first write; until then it may be missing, and
-/// reads as an empty one. Files in it that no store has are neither listed nor touched, and no other process may write to
-/// those of the store meanwhile.
+/// reads as an empty one. Files in it that no store has are neither listed nor touched.
+///
+/// The site has the folder alone: its first use takes the system's lock on it, which it keeps to its end. Where another site has
+/// it, in this process or in another one, each call answers the fault of its kind, and nothing was read or written.
 ///
 /// A file in the folder's place, a folder in a file's place, and what may not be opened for reading and writing are
 /// faults of the calls that meet them. A call that finds memory short, in this process or in the system, answers so; but
@@ -27,7 +29,7 @@ use std::rt::Files;
 pub struct RealSite<R> {
     system: System<R>,
     folder: Folder,
-    tally: Tally,
+    refusals: Refusals,
 }
 
 impl<R: Files<File = File> + Print + AllocGlobal + Clone + Drop> RealSite<R> {
@@ -45,7 +47,7 @@ impl<R: Files<File = File> + Print + AllocGlobal + Clone + Drop> RealSite<R> {
         Ok(RealSite {
             system: System::new(rt),
             folder,
-            tally: Tally::new(),
+            refusals: Refusals::new(),
         })
     }
 
@@ -55,10 +57,21 @@ impl<R: Files<File = File> + Print + AllocGlobal + Clone + Drop> RealSite<R> {
     {
         self.system.traffic()
     }
+
+    /// What the system said when it last refused a call on a file, as a text for people: which file, and why. None where it
+    /// refused none.
+    pub fn refusal(&self) -> Result<Option<String>, AllocError> {
+        self.refusals.text(self.system.alloc(), self.folder.path())
+    }
+
+    /// The same of standard output.
+    pub fn tell_refusal(&self) -> Option<io::Error> {
+        self.refusals.of_tell()
+    }
 }
 
 impl<R: Files<File = File> + Print + AllocGlobal + Clone + Drop> Site for RealSite<R> {
-    ghost use Rattle.px_realsite.specs.RealSite.{counted, folder_path, traffic_of, HasDurableNames};
+    ghost use Rattle.px_realsite.specs.RealSite.{counted, folder_path, read_of, traffic_of, written_of};
 
     ghost tells = { ⊥ };
 
@@ -73,11 +86,12 @@ impl<R: Files<File = File> + Print + AllocGlobal + Clone + Drop> Site for RealSi
         ensures counted { Counted Fault.Read (counted self.old) (counted self.new) result }
         ensures same_folder { folder_path self.new ≡ folder_path self.old }
         ensures asked { OnOk result (Asked (traffic_of self.old) (traffic_of self.new)) }
+        ensures locked { OnOk result (IsLocked (traffic_of self.old) (traffic_of self.new)) }
         ensures no_bytes { NoBytes (traffic_of self.old) (traffic_of self.new) }
     {
         match self.folder.len(&mut self.system, file) {
             Ok(len) => Ok(len),
-            Err(error) => refuse(&mut self.tally, Fault::Read, &error),
+            Err(error) => self.refusals.refuse(Fault::Read, Some(file), error),
         }
     }
 
@@ -88,11 +102,17 @@ impl<R: Files<File = File> + Print + AllocGlobal + Clone + Drop> Site for RealSi
         ensures asked { place < LONGEST_FILE → 0 < length buf.new
             → OnOk result (Asked (traffic_of self.old) (traffic_of self.new)) }
         ensures moved { IfOk result (Moved (traffic_of self.old).bytes_read (traffic_of self.new).bytes_read) }
+        ensures piece { IfOk result (λ n. 0 < n → EndsWith file place n (read_of self.new)) }
+        ensures whole { IfOk result (λ n. IsWhole n (min (length buf.new) (LONGEST_FILE - place)) (traffic_of self.old) (traffic_of self.new)) }
+        ensures locked { place < LONGEST_FILE → OnOk result (IsLocked (traffic_of self.old) (traffic_of self.new)) }
         ensures only_reads { OnlyReads (traffic_of self.old) (traffic_of self.new) }
     {
+        if place >= LONGEST_FILE {
+            return Ok(0);
+        }
         match self.folder.read_at(&mut self.system, file, place, buf) {
             Ok(count) => Ok(count),
-            Err(error) => refuse(&mut self.tally, Fault::Read, &error),
+            Err(error) => self.refusals.refuse(Fault::Read, Some(file), error),
         }
     }
 
@@ -103,11 +123,14 @@ impl<R: Files<File = File> + Print + AllocGlobal + Clone + Drop> Site for RealSi
         ensures asked { OnOk result (Asked (traffic_of self.old) (traffic_of self.new)) }
         ensures moved { OnOk result
             (Moved (traffic_of self.old).bytes_written (traffic_of self.new).bytes_written (length bytes.now)) }
+        ensures piece { 0 < length bytes.now
+            → OnOk result (EndsWith file place (length bytes.now) (written_of self.new)) }
+        ensures locked { OnOk result ((traffic_of self.new).is_held ≡ true) }
         ensures only_writes { OnlyWrites (traffic_of self.old) (traffic_of self.new) }
     {
         match self.folder.write_at(&mut self.system, file, place, bytes) {
             Ok(()) => Ok(()),
-            Err(error) => refuse(&mut self.tally, Fault::Write, &error),
+            Err(error) => self.refusals.refuse(Fault::Write, Some(file), error),
         }
     }
 
@@ -115,11 +138,12 @@ impl<R: Files<File = File> + Print + AllocGlobal + Clone + Drop> Site for RealSi
         ensures counted { Counted Fault.Write (counted self.old) (counted self.new) result }
         ensures same_folder { folder_path self.new ≡ folder_path self.old }
         ensures asked { OnOk result (Asked (traffic_of self.old) (traffic_of self.new)) }
+        ensures locked { OnOk result (IsLocked (traffic_of self.old) (traffic_of self.new)) }
         ensures no_bytes { NoBytes (traffic_of self.old) (traffic_of self.new) }
     {
         match self.folder.cut(&mut self.system, file, len) {
             Ok(()) => Ok(()),
-            Err(error) => refuse(&mut self.tally, Fault::Write, &error),
+            Err(error) => self.refusals.refuse(Fault::Write, Some(file), error),
         }
     }
 
@@ -127,12 +151,13 @@ impl<R: Files<File = File> + Print + AllocGlobal + Clone + Drop> Site for RealSi
         ensures counted { Counted Fault.Sync (counted self.old) (counted self.new) result }
         ensures same_folder { folder_path self.new ≡ folder_path self.old }
         ensures asked { OnOk result (Asked (traffic_of self.old) (traffic_of self.new)) }
+        ensures locked { OnOk result (IsLocked (traffic_of self.old) (traffic_of self.new)) }
         ensures no_bytes { NoBytes (traffic_of self.old) (traffic_of self.new) }
-        ensures durable { OnOk result (HasDurableNames self.new) }
+        ensures durable { OnOk result (IsDurable file (traffic_of self.old) (traffic_of self.new)) }
     {
         match self.folder.sync(&mut self.system, file) {
             Ok(()) => Ok(()),
-            Err(error) => refuse(&mut self.tally, Fault::Sync, &error),
+            Err(error) => self.refusals.refuse(Fault::Sync, Some(file), error),
         }
     }
 
@@ -140,11 +165,12 @@ impl<R: Files<File = File> + Print + AllocGlobal + Clone + Drop> Site for RealSi
         ensures counted { Counted Fault.Remove (counted self.old) (counted self.new) result }
         ensures same_folder { folder_path self.new ≡ folder_path self.old }
         ensures asked { OnOk result (Asked (traffic_of self.old) (traffic_of self.new)) }
+        ensures locked { OnOk result (IsLocked (traffic_of self.old) (traffic_of self.new)) }
         ensures no_bytes { NoBytes (traffic_of self.old) (traffic_of self.new) }
     {
         match self.folder.remove(&mut self.system, file) {
             Ok(()) => Ok(()),
-            Err(error) => refuse(&mut self.tally, Fault::Remove, &error),
+            Err(error) => self.refusals.refuse(Fault::Remove, Some(file), error),
         }
     }
 
@@ -154,11 +180,12 @@ impl<R: Files<File = File> + Print + AllocGlobal + Clone + Drop> Site for RealSi
         ensures same_folder { folder_path self.new ≡ folder_path self.old }
         ensures asked { IfNone after (OnOk result (Asked (traffic_of self.old) (traffic_of self.new))) }
         ensures looked { IfOk result (λ next. OnSome next (Asked (traffic_of self.old) (traffic_of self.new))) }
+        ensures locked { OnOk result (IsLocked (traffic_of self.old) (traffic_of self.new)) }
         ensures no_bytes { NoBytes (traffic_of self.old) (traffic_of self.new) }
     {
         match self.folder.list(&mut self.system, after) {
             Ok(found) => Ok(found),
-            Err(error) => refuse(&mut self.tally, Fault::List, &error),
+            Err(error) => self.refusals.refuse(Fault::List, None, error),
         }
     }
 
@@ -172,43 +199,9 @@ impl<R: Files<File = File> + Print + AllocGlobal + Clone + Drop> Site for RealSi
     {
         match write_all(&mut self.system, bytes) {
             Ok(()) => Ok(()),
-            Err(error) => refuse_tell(&mut self.tally, &error),
+            Err(error) => self.refusals.refuse_tell(error),
         }
     }
-}
-
-/// Counts what the system refused, and answers it as a call of this kind does.
-fn refuse<T>(tally: &mut Tally, kind: Fault, error: &io::Error) -> Result<T, SiteError>
-    requires file_call { kind ≢ Fault.Tell }
-    ensures short { error_kind error.now ≡ ErrorKind.OutOfMemory → IsErrOf result SiteError.OutOfMemory }
-    ensures fault { error_kind error.now ≢ ErrorKind.OutOfMemory → IsErrOf result (SiteError.Fault kind) }
-    ensures counted { Counted kind (counts_of tally.old) (counts_of tally.new) result }
-{
-    if is_short(error) {
-        tally.short()
-    } else {
-        tally.fault(kind)
-    }
-}
-
-/// The same for `tell`, whose faults have a count of their own.
-fn refuse_tell<T>(tally: &mut Tally, error: &io::Error) -> Result<T, SiteError>
-    ensures short { error_kind error.now ≡ ErrorKind.OutOfMemory → IsErrOf result SiteError.OutOfMemory }
-    ensures fault { error_kind error.now ≢ ErrorKind.OutOfMemory → IsErrOf result (SiteError.Fault Fault.Tell) }
-    ensures counted { TellCounted (counts_of tally.old) (counts_of tally.new) result }
-{
-    if is_short(error) {
-        tally.short()
-    } else {
-        tally.tell_fault()
-    }
-}
-
-/// Whether memory is short, in this process or in the system.
-fn is_short(error: &io::Error) -> bool
-    ensures { IsTrue result ↔ (error_kind error.now ≡ ErrorKind.OutOfMemory) }
-{
-    error.kind() == ErrorKind::OutOfMemory
 }
 
 /// Writes to standard output until all bytes are written. Where some were, a want of memory isn't answered as one: that says that
@@ -227,8 +220,10 @@ fn write_all<R: Print>(system: &mut System<R>, bytes: &[u8]) -> io::Result<()>
             Ok(0) => return Err(ErrorKind::WriteZero.into()),
             Ok(count) => done += count,
             Err(error) if error.kind() == ErrorKind::Interrupted => {}
-            Err(error) if done == 0 => return Err(error),
-            Err(_) => return Err(ErrorKind::WriteZero.into()),
+            Err(error) if done > 0 && error.kind() == ErrorKind::OutOfMemory => {
+                return Err(ErrorKind::WriteZero.into());
+            }
+            Err(error) => return Err(error),
         }
     }
     Err(ErrorKind::TimedOut.into())

@@ -1,29 +1,41 @@
 //! The system, which is asked here and nowhere else in the crate. Each call is counted where it is made.
 //!
 //! - `handles`: files that are open, and what is asked of them
+//! - `lock`: the lock on the folder, without which no name in it is asked for
 //! - `streams`: no open file has the number of a standard stream
 //! - `traffic`: the counts
-ghost use Rattle.std.specs.Prelude.{◌≡◌, ◌≤◌, length, IfOk};
-ghost use Rattle.px_realsite.specs.Traffic.{IsCounted, asked, asked_to_tell, no_traffic};
+//! - `piece`: where the bytes went over that were read or written last
+ghost use Rattle.std.specs.Prelude.{◌≡◌, ◌≤◌, length, true, IfOk, IfSome, IsSome};
+ghost use Rattle.px_realsite.specs.Traffic.{IsCounted, asked, asked_for, asked_to_name, asked_to_tell, no_traffic};
 
 mod handles;
+mod lock;
+mod piece;
 mod streams;
 mod traffic;
 
 pub(crate) use handles::{FolderHandle, Handle};
+use lock::Lock;
+pub use piece::Piece;
 use px_site::FileName;
 use std::alloc::Global;
 use std::fs::{self, DirEntry, File, OpenOptions};
 use std::io::{self, ErrorKind};
 use std::rt::Files;
-pub use traffic::Traffic;
+pub use traffic::{Syncs, Traffic};
 
 /// The files of the system and standard output, with the counts of what was asked of them.
 #[derive(Drop)]
 pub(crate) struct System<R> {
     rt: R,
+    lock: Option<Lock>,
+    /// Whether the folder was once asked for and not there: then it is answered for as an empty one.
+    was_absent: bool,
+    read: Piece,
+    written: Piece,
     traffic: Traffic,
     ghost counted: { IsCounted traffic },
+    ghost kept: { traffic.is_held ≡ true → IsSome lock },
 }
 
 impl<R> System<R> {
@@ -32,6 +44,10 @@ impl<R> System<R> {
     {
         System {
             rt,
+            lock: None,
+            was_absent: false,
+            read: Piece::new(),
+            written: Piece::new(),
             traffic: Traffic::new(),
         }
     }
@@ -50,57 +66,72 @@ impl<R: AllocGlobal> System<R> {
 }
 
 impl<R: Files<File = File>> System<R> {
-    /// Opens a file that is there.
-    pub(crate) fn open(&mut self, path: &str) -> io::Result<Handle>
-        ensures { self.new.traffic ≡ asked self.old.traffic }
+    /// Opens the file of this name at this path, or answers None where it isn't there.
+    pub(crate) fn open(&mut self, path: &str, name: FileName) -> io::Result<Option<Handle>>
+        requires { self.old.traffic.is_held ≡ true }
+        ensures named { IfOk result (λ found. IfSome found (λ handle. handle.name ≡ name)) }
+        ensures counted { self.new.traffic ≡ asked_for result self.old.traffic }
     {
         self.traffic.count_call();
-        let file = OpenOptions::new()
+        let opened = OpenOptions::new()
             .read(true)
             .write(true)
-            .open(&self.rt, path)?;
-        Handle::new(file)
+            .open(&self.rt, path);
+        match opened {
+            Ok(file) => Ok(Some(Handle::new(name, file)?)),
+            Err(error) if error.kind() == ErrorKind::NotFound => {
+                self.traffic.count_absent();
+                Ok(None)
+            }
+            Err(error) => Err(error),
+        }
     }
 
     /// Opens a file, and makes it where it isn't there.
-    pub(crate) fn create(&mut self, path: &str) -> io::Result<Handle>
-        ensures { self.new.traffic ≡ asked self.old.traffic }
+    pub(crate) fn create(&mut self, path: &str, name: FileName) -> io::Result<Handle>
+        requires { self.old.traffic.is_held ≡ true }
+        ensures named { IfOk result (λ handle. handle.name ≡ name) }
+        ensures counted { self.new.traffic ≡ asked_to_name self.old.traffic }
     {
         self.traffic.count_call();
+        self.traffic.syncs.are_names_durable = false;
         let file = OpenOptions::new()
             .read(true)
             .write(true)
             .create(true)
             .open(&self.rt, path)?;
-        Handle::new(file)
+        Handle::new(name, file)
     }
 
-    /// Opens a folder.
-    pub(crate) fn open_folder(&mut self, path: &str) -> io::Result<FolderHandle>
-        ensures { self.new.traffic ≡ asked self.old.traffic }
+    /// Opens a folder, or answers None where it isn't there.
+    pub(crate) fn open_folder(&mut self, path: &str) -> io::Result<Option<FolderHandle>>
+        ensures { self.new.traffic ≡ asked_for result self.old.traffic }
     {
         self.traffic.count_call();
-        Ok(FolderHandle::new(File::open(&self.rt, path)?))
+        match File::open(&self.rt, path) {
+            Ok(folder) => Ok(Some(FolderHandle::new(folder)?)),
+            Err(error) if error.kind() == ErrorKind::NotFound => {
+                self.traffic.count_absent();
+                Ok(None)
+            }
+            Err(error) => Err(error),
+        }
     }
 }
 
 impl<R: Files> System<R> {
-    pub(crate) fn create_folder(&mut self, path: &str) -> io::Result<()>
-        ensures { self.new.traffic ≡ asked self.old.traffic }
-    {
-        self.traffic.count_call();
-        fs::create_dir(&self.rt, path)
-    }
-
     pub(crate) fn remove_file(&mut self, path: &str) -> io::Result<()>
-        ensures { self.new.traffic ≡ asked self.old.traffic }
+        requires { self.old.traffic.is_held ≡ true }
+        ensures { self.new.traffic ≡ asked_to_name self.old.traffic }
     {
         self.traffic.count_call();
+        self.traffic.syncs.are_names_durable = false;
         fs::remove_file(&self.rt, path)
     }
 
     /// Whether what stands there is a file with at least one byte.
     pub(crate) fn has_byte(&mut self, path: &str) -> io::Result<bool>
+        requires { self.old.traffic.is_held ≡ true }
         ensures { self.new.traffic ≡ asked self.old.traffic }
     {
         self.traffic.count_call();
@@ -112,6 +143,7 @@ impl<R: Files> System<R> {
 impl<R: Files + AllocGlobal + Clone + Drop> System<R> {
     /// The names in a folder that are those of a store's files, in no order.
     pub(crate) fn names(&mut self, folder: &str) -> io::Result<Vec<FileName>>
+        requires { self.old.traffic.is_held ≡ true }
         ensures { self.new.traffic ≡ asked self.old.traffic }
     {
         self.traffic.count_call();

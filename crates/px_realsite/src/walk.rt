@@ -1,5 +1,5 @@
 //! The names of a folder, in order.
-ghost use Rattle.std.specs.Prelude.{◌↔◌, IfOk, IfSome, IsSome, IsTrue, OnOk, OnSome};
+ghost use Rattle.std.specs.Prelude.{◌≡◌, ◌↔◌, true, IfOk, IfSome, IsSome, IsTrue, OnOk, OnSome};
 ghost use Rattle.px_site.specs.State.{IsListed};
 ghost use Rattle.px_realsite.specs.Traffic.{Asked, NoBytes};
 
@@ -24,18 +24,16 @@ pub(crate) struct Walk {
 }
 
 impl Walk {
-    /// Reads the folder. One that isn't there has no names.
+    /// Reads the folder.
     pub(crate) fn read<R: Files + AllocGlobal + Clone + Drop>(
         system: &mut System<R>,
         folder: &str,
     ) -> io::Result<Walk>
+        requires { system.old.traffic.is_held ≡ true }
         ensures asked { Asked system.old.traffic system.new.traffic }
         ensures no_bytes { NoBytes system.old.traffic system.new.traffic }
     {
-        let mut names = match system.names(folder) {
-            Err(error) if error.kind() == ErrorKind::NotFound => Vec::new(system.alloc()),
-            names => names?,
-        };
+        let mut names = system.names(folder)?;
         names.sort_unstable();
         Ok(Walk {
             names,
@@ -58,6 +56,7 @@ impl Walk {
         folder: &str,
         after: Option<FileName>,
     ) -> io::Result<Option<FileName>>
+        requires { system.old.traffic.is_held ≡ true }
         ensures bound { IfOk result (λ found. IfSome found (IsListed after)) }
         ensures asked { IfOk result (λ found. OnSome found (Asked system.old.traffic system.new.traffic)) }
         ensures no_bytes { NoBytes system.old.traffic system.new.traffic }
@@ -90,6 +89,7 @@ fn has_byte<R: Files + AllocGlobal>(
     folder: &str,
     name: FileName,
 ) -> io::Result<bool>
+    requires { system.old.traffic.is_held ≡ true }
     ensures asked { OnOk result (Asked system.old.traffic system.new.traffic) }
     ensures no_bytes { NoBytes system.old.traffic system.new.traffic }
 {

@@ -7,7 +7,7 @@ use std::test::Fail;
 const LOG: FileName = FileName::Xlog(1);
 
 /// What each call on the file answers, in the order of the trait.
-fn answers<S: Site>(site: &mut S) -> [Option<SiteError>; 6] {
+pub fn answers<S: Site>(site: &mut S) -> [Option<SiteError>; 6] {
     [
         site.len(LOG).err(),
         site.read_at(LOG, 0, &mut [0u8; 4]).err(),
@@ -18,7 +18,8 @@ fn answers<S: Site>(site: &mut S) -> [Option<SiteError>; 6] {
     ]
 }
 
-const FAULTS: [Option<SiteError>; 6] = [
+/// The fault of each.
+pub const FAULTS: [Option<SiteError>; 6] = [
     Some(SiteError::Fault(Fault::Read)),
     Some(SiteError::Fault(Fault::Read)),
     Some(SiteError::Fault(Fault::Write)),

@@ -7,6 +7,7 @@
 //! - `contents`: files as they are written, cut, removed and found again
 //! - `listings`: which names are listed, and a listing while files come and go
 //! - `faults`: which kind of fault each call answers
+//! - `locks`: one site at a time has a folder; what a site says of a refusal
 //! - `sources`: sources in memory, call by call
 #![tactic(auto)]
 
@@ -22,5 +23,7 @@ mod faults;
 mod folders;
 #[cfg(test)]
 mod listings;
+#[cfg(test)]
+mod locks;
 #[cfg(test)]
 mod sources;

@@ -1,15 +1,14 @@
--- What was asked of an input that tells no bytes.
-use Rattle.std.specs.Prelude.{ℕ, ◌+◌, ◌-◌, ◌^◌, min, Result, Ok, Err}
+-- What was asked of standard input.
+use Rattle.std.specs.Prelude.{ℕ, ◌+◌, ◌-◌, ◌^◌, min, List, Option, Result, Ok, Err}
 use Rattle.px_source.specs.Source.{one_more}
 
--- how often the system was asked for bytes, how many it gave, and how many reads failed
+-- how often the system was asked for bytes, how many it gave, how many reads failed, and which bytes it has left, where it tells
+-- them
 pub record Asked : Type 0 where
   pub calls : ℕ
   pub bytes : ℕ
   pub faults : ℕ
-
-abbrev pub nothing_asked : Asked
-nothing_asked = record { calls = 0; bytes = 0; faults = 0 }
+  pub left : Option (List ℕ)
 
 -- a count after so many more; at the greatest u64 it stands still
 abbrev pub more_by : ℕ → ℕ → ℕ

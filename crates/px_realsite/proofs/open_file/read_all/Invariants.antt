@@ -1,11 +1,13 @@
-use Rattle.std.proofs.Common.{◌≤◌, ◌<◌}
+use Rattle.std.proofs.Common.{◌≤◌, ◌<◌, length}
+use Rattle.px_realsite.specs.Piece.{EndsWith}
 use Rattle.px_realsite.specs.Traffic.{Asked, Moved, OnlyReads}
-use Rattle.px_realsite.proofs.open_file.OpenFile.read_at.Given as goal
+use Rattle.px_realsite.proofs.open_file.read_all.Given as goal
 
 abbrev pub invariant-loop : goal.invariant-loop
 invariant-loop g l = record {
-  within : l.done ≤ l.room;
+  within : l.done ≤ length l.buf;
   asked : 0 < l.done → Asked l.initial.system.traffic l.system.traffic;
   moved : Moved l.initial.system.traffic.bytes_read l.system.traffic.bytes_read l.done;
+  piece : 0 < l.done → EndsWith l.handle.name l.place l.done l.system.read;
   only : OnlyReads l.initial.system.traffic l.system.traffic;
 }
