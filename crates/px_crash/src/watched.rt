@@ -1,5 +1,5 @@
-// A site in memory that notes each call which changes something.
-ghost use Rattle.std.specs.Prelude.{◌≡◌, []};
+// A site in memory whose changing calls are noted.
+ghost use Rattle.std.specs.Prelude.{[]};
 ghost use Rattle.px_site.specs.Disk.{at_rest};
 ghost use Rattle.px_memsite.specs.Calls.{site_counts};
 
@@ -8,30 +8,55 @@ use px_memsite::MemSite;
 use px_site::{FileName, Site, SiteError};
 use std::alloc::{AllocError, Global};
 
-/// The site, and its calls in their order. To contracts it tells nothing: it is there for a program to look at.
+/// Calls that were done, in their order.
 #[derive(Drop)]
-pub(crate) struct WatchedSite {
+struct Notes {
     alloc: Global,
-    site: MemSite,
     changes: Vec<Change>,
     is_whole: bool,
+}
+
+impl Notes {
+    /// Notes a call, where it was done.
+    fn add(&mut self, is_done: bool, change: Result<Change, AllocError>) {
+        if !is_done {
+            return;
+        }
+        match change {
+            Ok(change) => {
+                if self.changes.push(change).is_err() {
+                    self.is_whole = false;
+                }
+            }
+            Err(_) => self.is_whole = false,
+        }
+    }
+}
+
+/// The site and the notes. To contracts it tells nothing: it is there for a program to look at.
+#[derive(Drop)]
+pub(crate) struct WatchedSite {
+    site: MemSite,
+    notes: Notes,
 }
 
 impl WatchedSite {
     /// Over a site of which no call was made yet.
     pub(crate) fn new(alloc: Global, site: MemSite) -> WatchedSite {
         WatchedSite {
-            alloc,
             site,
-            changes: Vec::new(alloc),
-            is_whole: true,
+            notes: Notes {
+                alloc,
+                changes: Vec::new(alloc),
+                is_whole: true,
+            },
         }
     }
 
     /// The calls that changed something, in their order. Fails where one couldn't be noted.
     pub(crate) fn into_changes(self) -> Result<Vec<Change>, AllocError> {
-        if self.is_whole {
-            Ok(self.changes)
+        if self.notes.is_whole {
+            Ok(self.notes.changes)
         } else {
             Err(AllocError)
         }
@@ -43,20 +68,6 @@ impl WatchedSite {
 
     pub(crate) fn into_site(self) -> MemSite {
         self.site
-    }
-
-    /// Notes a call that was done.
-    fn note(&mut self, change: Result<Change, AllocError>)
-        ensures { self.new.site ≡ self.old.site }
-    {
-        match change {
-            Ok(change) => {
-                if self.changes.push(change).is_err() {
-                    self.is_whole = false;
-                }
-            }
-            Err(_) => self.is_whole = false,
-        }
     }
 }
 
@@ -78,37 +89,31 @@ impl Site for WatchedSite {
     }
 
     fn write_at(&mut self, file: FileName, place: u64, bytes: &[u8]) -> Result<(), SiteError> {
+        let change = Change::write(self.notes.alloc, file, place, bytes);
         let answer = self.site.write_at(file, place, bytes);
-        if answer.is_ok() {
-            self.note(Change::write(self.alloc, file, place, bytes));
-        }
+        self.notes.add(answer.is_ok(), change);
         answer
     }
 
     fn cut(&mut self, file: FileName, len: u64) -> Result<(), SiteError> {
-        let before = self.site.content(file).len() as u64;
+        let lost = (self.site.content(file).len() as u64).saturating_sub(len);
         let answer = self.site.cut(file, len);
-        if answer.is_ok() {
-            let lost = before.saturating_sub(len);
-            self.note(Ok(Change::Cut { file, len, lost }));
-        }
+        self.notes
+            .add(answer.is_ok(), Ok(Change::Cut { file, len, lost }));
         answer
     }
 
     fn sync(&mut self, file: FileName) -> Result<(), SiteError> {
         let answer = self.site.sync(file);
-        if answer.is_ok() {
-            self.note(Ok(Change::Sync(file)));
-        }
+        self.notes.add(answer.is_ok(), Ok(Change::Sync(file)));
         answer
     }
 
     fn remove(&mut self, file: FileName) -> Result<(), SiteError> {
         let lost = self.site.content(file).len() as u64;
         let answer = self.site.remove(file);
-        if answer.is_ok() {
-            self.note(Ok(Change::Remove { file, lost }));
-        }
+        self.notes
+            .add(answer.is_ok(), Ok(Change::Remove { file, lost }));
         answer
     }
 
@@ -117,10 +122,9 @@ impl Site for WatchedSite {
     }
 
     fn tell(&mut self, bytes: &[u8]) -> Result<(), SiteError> {
+        let change = Change::tell(self.notes.alloc, bytes);
         let answer = self.site.tell(bytes);
-        if answer.is_ok() {
-            self.note(Change::tell(self.alloc, bytes));
-        }
+        self.notes.add(answer.is_ok(), change);
         answer
     }
 }
