@@ -6,6 +6,7 @@ use crate::outcomes::Outcomes;
 use crate::trial::Trial;
 use std::alloc::{AllocError, Global};
 use std::process::ExitCode;
+use std::str::Lines;
 
 /// The most outcomes that are tried of one script: some seconds' work.
 const MOST_OUTCOMES: u64 = 5_000;
@@ -55,21 +56,45 @@ fn count_outcomes(alloc: Global, trial: &Trial) -> Result<u64, AllocError> {
 fn tell_calls(rt: &HostRuntime, trial: &Trial, outcomes: &mut Outcomes) -> anyhow::Result<()> {
     let mut progress = Progress::new(rt.alloc());
     let mut lines = trial.script.lines();
-    let mut heading = Some("the opening");
-    let mut told = "nothing";
     for (place, change) in trial.changes.iter().enumerate() {
-        if let Some(line) = heading {
-            println!(rt; "{line}")?;
-        }
+        tell_heading(rt, trial, place, &mut lines)?;
         let before = (place as u64).saturating_mul(2);
+        let told = told_before(trial, place);
         tell_call(rt, trial, outcomes, &mut progress, change, before, told)?;
-        heading = None;
-        if let Some(text) = change.told() {
-            told = text;
-            heading = lines.next();
-        }
     }
     Ok(())
+}
+
+/// The line of the script that comes next, where the change before this one told the reply to the one before.
+fn tell_heading(
+    rt: &HostRuntime,
+    trial: &Trial,
+    place: usize,
+    lines: &mut Lines<'_>,
+) -> anyhow::Result<()> {
+    if place == 0 {
+        println!(rt; "the opening")?;
+        return Ok(());
+    }
+    let Some(before) = trial.changes.get(place - 1) else {
+        return Ok(());
+    };
+    if before.told().is_some()
+        && let Some(line) = lines.next()
+    {
+        println!(rt; "{line}")?;
+    }
+    Ok(())
+}
+
+/// What was told last before the change at this place.
+fn told_before<'a>(trial: &'a Trial<'_>, place: usize) -> &'a str {
+    for change in trial.changes.iter().take(place).rev() {
+        if let Some(text) = change.told() {
+            return text;
+        }
+    }
+    "nothing"
 }
 
 /// A line for the moment within a call, and one for the moment after it. `before` is the moment in front of it, and `told` what
