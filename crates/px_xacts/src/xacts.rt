@@ -1,5 +1,6 @@
-ghost use Rattle.std.specs.Prelude.{◌≡◌, ◌<◌, ◌≤◌, ◌+◌, ◌^◌, IfOk, IfSome, length, option_map};
+ghost use Rattle.std.specs.Prelude.{◌≡◌, ◌<◌, ◌≤◌, ◌+◌, IfOk, IfSome, length, option_map};
 ghost use Rattle.std.specs.Option.{option_copied};
+ghost use Rattle.px_model.specs.declared.limits.TheConstants.{STORED_NUMBERS_END};
 ghost use Rattle.px_xacts.specs.Sound.{IsOpen};
 ghost use Rattle.px_xacts.specs.Transactions.{fresh, open_of};
 
@@ -57,7 +58,7 @@ impl Model for Xacts {
 impl Xacts {
     /// No transaction has begun, and the first has the stored number `base + 1`.
     pub fn new(alloc: Global, base: u64) -> Result<Xacts, AllocError>
-        requires { base < 2 ^ 62 }
+        requires { base < STORED_NUMBERS_END }
         ensures { IfOk result (λ all. all ≡ fresh base) }
     {
         let mut active = Vec::new(alloc);
@@ -75,11 +76,19 @@ impl Xacts {
         })
     }
 
+    /// The last stored number that was given out before the opening.
+    pub fn base(&self) -> u64
+        ensures is { result ≡ self.now.base }
+        ensures stored { self.now.base + self.now.begun < STORED_NUMBERS_END }
+    {
+        self.base
+    }
+
     /// The number of the session's open transaction.
     pub fn number(&self, session: Session) -> Option<u64>
         ensures is { result ≡ option_map (λ transaction. transaction.number) (open_of self.now session) }
         ensures bounds { IfSome result (λ number. (1 ≤ number) × (number ≤ self.now.begun)) }
-        ensures stored { IfSome result (λ number. self.now.base + number < 2 ^ 62) }
+        ensures stored { IfSome result (λ number. self.now.base + number < STORED_NUMBERS_END) }
     {
         Some(self.open_of(session)?.number)
     }
@@ -99,15 +108,16 @@ impl Xacts {
         self.outcomes.len() as u64
     }
 
-    fn allocator(&self) -> Global {
-        *self.outcomes.allocator()
-    }
-
-    fn open_of(&self, session: Session) -> Option<&Transaction>
+    /// The session's open transaction.
+    pub fn open_of(&self, session: Session) -> Option<&Transaction>
         ensures is { option_copied result ≡ open_of self.now session }
         ensures sound { IfSome (option_copied result) (IsOpen self.now.begun self.now.outcomes) }
-        ensures stored { self.now.base + self.now.begun < 2 ^ 62 }
+        ensures stored { self.now.base + self.now.begun < STORED_NUMBERS_END }
     {
         self.active[session.index() as usize].as_ref()
+    }
+
+    fn allocator(&self) -> Global {
+        *self.outcomes.allocator()
     }
 }
