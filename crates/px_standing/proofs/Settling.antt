@@ -34,7 +34,7 @@ use Rattle.px_standing.proofs.Standing.{IsGrowing, image_stands}
 
 -- ---- what is read is plain
 
-plain_restart : (file : FileState) (content : List ℕ) → file ≡ at_rest content → IsPlainRestart file content
+pub plain_restart : (file : FileState) (content : List ℕ) → file ≡ at_rest content → IsPlainRestart file content
 plain_restart file content rests = subst (λ (f : FileState). IsPlainRestart f content) (sym rests) (λ restart at. (0, has restart at.front))
   where
     has : (restart : Restart) → content ≡ restart_text VERSION restart ++ drop RESTART_SIZE content → HasAt content 0 (restart_text VERSION restart)
@@ -53,7 +53,7 @@ overlaid_appended synced earlier content place number (payload ∷ payloads) is 
     (ap (λ (b : List ℕ). overlay b place one) is ∙ overlay_end content one place at_end) (omega (arith, at_end, length-append content one))
     ∙ append_assoc content one (frames (number + 1) payloads)
 
-frame_has : (content front text rest : List ℕ) → content ≡ front ++ (text ++ rest) → HasAt content (length front) text
+pub frame_has : (content front text rest : List ℕ) → content ≡ front ++ (text ++ rest) → HasAt content (length front) text
 frame_has content front text rest e =
     ap (λ (b : List ℕ). take (length text) b) (ap (λ (c : List ℕ). drop (length front) c) e ∙ drop_at front (text ++ rest) (length front) refl)
     ∙ take_at text rest (length text) refl
