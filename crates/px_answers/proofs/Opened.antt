@@ -29,20 +29,9 @@ writes_known x y e =
     let k = same_Some (x.number, (x.snap, map key_at x.writes)) (y.number, (y.snap, map key_written y.writes)) e in
     sym (length-map x.writes key_at) ∙ ap (λ (k : Known). length k.1.1) k ∙ length-map y.writes key_written
 
-as_many_writes : (count : ℕ) (x : Option Transaction) (y : Option Open) → known_of_transaction x ≡ known_of_open y
-    → ((t : Transaction) → x ≡ Some t → count ≡ length t.writes) → (z : Open) → y ≡ Some z → count ≡ length z.writes
-as_many_writes count None y e has z at = absurd (none-some (z.number, (z.snap, map key_written z.writes)) (e ∙ ap known_of_open at))
-as_many_writes count (Some x) y e has z at = has x refl ∙ writes_known x z (e ∙ ap known_of_open at)
-
 pub caller_of : {site : State} {held : HeldTables} {holders : Holders} {m : Machine} {store : Store} (caller : Caller)
     → Sees site held caller.xacts.now holders m store → IsCallerOn held caller → IsCallerOf m caller
-caller_of {m = m} caller sees on = record {
-  mirrors = sees.mirrors;
-  tables = on.tables ∙ sees.tables;
-  short = on.short ∙ sees.short;
-  writes = as_many_writes caller.writes (xacts.open_of caller.xacts.now caller.session) (open_of m caller.session)
-      (session_known m caller.xacts.now caller.session sees.mirrors) on.writes;
-}
+caller_of caller sees on = record { mirrors = sees.mirrors; tables = on.tables ∙ sees.tables; short = on.short ∙ sees.short }
 
 both_known : (m : Machine) (all : Transactions) (x : Option Transaction) (y : Option Open) → all.base ≡ m.base
     → known_of_transaction x ≡ known_of_open y → option_map (opened_of all) x ≡ option_map (opened_in m) y
@@ -53,7 +42,8 @@ both_known m all (Some x) (Some y) base e =
     let k = same_Some (x.number, (x.snap, map key_at x.writes)) (y.number, (y.snap, map key_written y.writes)) e in
     let number : x.number ≡ y.number = ap (λ (k : Known). k.0) k in
     let snap : x.snap ≡ y.snap = ap (λ (k : Known). k.1.0) k in
-    let same : opened_of all x ≡ opened_in m y = λ i. record { number = number i; stored = base i + number i; snapshot = snap i } in
+    let writes = writes_known x y e in
+    let same : opened_of all x ≡ opened_in m y = λ i. record { number = number i; stored = base i + number i; snapshot = snap i; writes = writes i } in
     ap (λ (o : Opened). Some o) same
 
 opened_known : (m : Machine) (all : Transactions) (session : ℕ) → Mirrors m all
@@ -80,6 +70,10 @@ pub some_open : (m : Machine) (all : Transactions) (session : ℕ) (o : Option O
     → o ≡ option_map (opened_of all) (xacts.open_of all session) → o ≡ Some opened → (xact : Open) × IsOpenIn m session xact opened
 some_open m all session o opened mirrors is some =
     some_mapped m session (open_of m session) opened refl (sym (opened_known m all session mirrors) ∙ sym is ∙ some)
+
+-- it has as many writes as the machine's
+pub writes_of : {m : Machine} {session : ℕ} {xact : Open} {opened : Opened} → IsOpenIn m session xact opened → opened.writes ≡ length xact.writes
+writes_of is = ap (λ (o : Opened). o.writes) is.known
 
 -- ---- refusals
 

@@ -9,34 +9,27 @@ use Rattle.px_held.specs.Serving.{HeldTables}
 use Rattle.px_model.specs.declared.machine.Open.{Open}
 use Rattle.px_model.specs.Machine.{Machine}
 use Rattle.px_xacts.specs.declared.transaction.Transaction.{Transaction}
-use Rattle.px_xacts.specs.Transactions as xacts
 use Rattle.px_xacts.specs.Transactions.{Transactions}
 use Rattle.px_xacts_laws.specs.Mirrors.{Mirrors}
 
 -- what is known of an open transaction
 abbrev pub opened_of : Transactions → Transaction → Opened
-opened_of all x = record { number = x.number; stored = all.base + x.number; snapshot = x.snap }
+opened_of all x = record { number = x.number; stored = all.base + x.number; snapshot = x.snap; writes = length x.writes }
 
 -- the same, as the machine has it
 abbrev pub opened_in : Machine → Open → Opened
-opened_in m x = record { number = x.number; stored = m.base + x.number; snapshot = x.snap }
+opened_in m x = record { number = x.number; stored = m.base + x.number; snapshot = x.snap; writes = length x.writes }
 
--- what the caller says of its transactions' stored numbers is so
-abbrev pub KnowsBase : Caller → Type 0
-KnowsBase caller = caller.base ≡ caller.xacts.now.base
-
--- and what it says of the tables and of its writes
+-- what the caller says of the tables is so
 pub record IsCallerOn (held : HeldTables) (caller : Caller) : Type 0 where
   pub tables : caller.tables ≡ length held.tables
   pub short : caller.short ≡ held.short
-  pub writes : (x : Transaction) → xacts.open_of caller.xacts.now caller.session ≡ Some x → caller.writes ≡ length x.writes
 
--- its transactions, its tables, its short length and how many writes it has are the machine's
+-- its transactions, its tables and its short length are the machine's
 pub record IsCallerOf (m : Machine) (caller : Caller) : Type 0 where
   pub mirrors : Mirrors m caller.xacts.now
   pub tables : caller.tables ≡ m.tables
   pub short : caller.short ≡ m.short
-  pub writes : (x : Open) → open_of m caller.session ≡ Some x → caller.writes ≡ length x.writes
 
 -- the session's open transaction, and this is what is known of it
 pub record IsOpenIn (m : Machine) (session : ℕ) (xact : Open) (opened : Opened) : Type 0 where

@@ -97,7 +97,7 @@ pub record FitsIn (caller : Caller) (asked : Asked) (opened : Opened) : Type 0 w
   pub transaction : Transaction
   pub is_open : xacts.open_of caller.xacts.now caller.session ≡ Some transaction
   pub known : opened ≡ opened_of caller.xacts.now transaction
-  pub few : caller.writes < MOST_WRITES
+  pub few : length transaction.writes < MOST_WRITES
 
 -- What is asked fits a slot of the table, and one more write of the key may be added to those of the writer, the caller's
 -- transaction. It is so over a site that tells nothing, too.

@@ -4,7 +4,7 @@ ghost use Rattle.px_calls.specs.Steps.{fits_key, has_table, is_refusal};
 ghost use Rattle.px_model.specs.Machine.{Machine};
 ghost use Rattle.px_tables.specs.Linking.{IsKey};
 ghost use Rattle.px_xacts.specs.Transactions.{open_of};
-ghost use Rattle.px_answers.specs.Asking.{IsCallerOf, IsKeyRefusal, IsTableRefusal, KnowsBase, MayReadKey, MayReadTable, opened_of};
+ghost use Rattle.px_answers.specs.Asking.{IsCallerOf, IsKeyRefusal, IsTableRefusal, MayReadKey, MayReadTable, opened_of};
 ghost use Rattle.px_answers.specs.Writing.{fits_asked};
 
 use px_calls::Reply;
@@ -12,15 +12,11 @@ use px_held::Reader;
 use px_model::{LONGEST_KEY, Session};
 use px_xacts::Xacts;
 
-/// A session that calls, and what is known in memory of its store and of its transaction.
+/// A session that calls, the transactions of its store, and what is known in memory of its tables.
 #[derive(Clone, Copy, Drop)]
 pub struct Caller<'a> {
     pub session: Session,
     pub xacts: &'a Xacts,
-    /// The last stored number that was given out before the opening.
-    pub base: u64,
-    /// How many writes its open transaction has.
-    pub writes: usize,
     /// How many tables the store has, and how many bytes of a row's body stand in its slot at most.
     pub tables: u8,
     pub short: u32,
@@ -34,20 +30,21 @@ pub(crate) struct Opened {
     pub stored: u64,
     /// How many transactions had ended when it began.
     pub snapshot: u64,
+    /// How many writes it has.
+    pub writes: usize,
 }
 
 impl<'a> Caller<'a> {
     /// The session's open transaction.
     pub(crate) fn opened(&self) -> Option<Opened>
-        requires { KnowsBase self.now }
         ensures { result ≡ option_map (opened_of self.now.xacts.now) (open_of self.now.xacts.now self.now.session) }
     {
-        let number = self.xacts.number(self.session)?;
-        let snapshot = self.xacts.snapshot(self.session)?;
+        let transaction = self.xacts.open_of(self.session)?;
         Some(Opened {
-            number,
-            stored: self.base + number,
-            snapshot,
+            number: transaction.number,
+            stored: self.xacts.base() + transaction.number,
+            snapshot: transaction.snap,
+            writes: transaction.writes.as_slice().len(),
         })
     }
 
@@ -88,7 +85,6 @@ impl<'a> Caller<'a> {
 
     /// The session's transaction, where it may read rows of the table, and else the refusal.
     pub(crate) fn may_read_table(&self, table: u32) -> Result<Opened, Reply>
-        requires { KnowsBase self.now }
         ensures may { (m : Machine) → IsCallerOf m self.now → IfOk result (MayReadTable m self.now.session table) }
         ensures refused { (m : Machine) → IsCallerOf m self.now → IfErr result (IsTableRefusal m self.now.session table) }
         ensures refusal { IfErr result (λ reply. is_refusal reply ≡ true) }
@@ -105,7 +101,6 @@ impl<'a> Caller<'a> {
 
     /// The session's transaction, where it may read the row of the key, and else the refusal.
     pub(crate) fn may_read(&self, table: u32, key: &[u8]) -> Result<Opened, Reply>
-        requires { KnowsBase self.now }
         ensures may { (m : Machine) → IsCallerOf m self.now → IfOk result (MayReadKey m self.now.session table key.now) }
         ensures refused { (m : Machine) → IsCallerOf m self.now → IfErr result (IsKeyRefusal m self.now.session table key.now) }
         ensures refusal { IfErr result (λ reply. is_refusal reply ≡ true) }

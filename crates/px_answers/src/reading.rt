@@ -6,7 +6,7 @@ ghost use Rattle.px_calls.specs.Steps.{reply_of, state_after};
 ghost use Rattle.px_history.specs.Store.{Store};
 ghost use Rattle.px_locks.specs.Holders.{Holders};
 ghost use Rattle.px_model.specs.Machine.{Machine};
-ghost use Rattle.px_answers.specs.Asking.{IsCallerOf, IsCallerOn, KnowsBase};
+ghost use Rattle.px_answers.specs.Asking.{IsCallerOf, IsCallerOn};
 ghost use Rattle.px_answers.specs.Keeping.{KeepsTickets};
 ghost use Rattle.px_answers.specs.Reading.{Answers, ReadsOnly, call_for};
 ghost use Rattle.px_answers.specs.Seeing.{Sees};
@@ -28,7 +28,6 @@ pub fn get<W: Site>(
     table: u32,
     key: &[u8],
 ) -> Result<Reply, HeldError>
-    requires { KnowsBase caller.now }
     ensures reply { W.tells → Answers (W.state site.old) held.old caller.now (Call.Get table key.now) result }
     ensures reads { ReadsOnly W.tells W.state W.counts site.old site.new held.old held.new result }
 {
@@ -51,7 +50,6 @@ pub fn hold<W: Site>(
     table: u32,
     key: &[u8],
 ) -> Result<Reply, HeldError>
-    requires { KnowsBase caller.now }
     ensures reply { W.tells → IsCallerOn held.old caller.now → (holders : Holders) (m : Machine) (store : Store)
         → Sees (W.state site.old) held.old caller.now.xacts.now holders m store → KeepsTickets tickets.old m → IfOk result (λ reply. reply ≡ reply_of m caller.now.session (Call.Hold table key.now)) }
     ensures keeps { W.tells → IsCallerOn held.old caller.now → (holders : Holders) (m : Machine) (store : Store)
@@ -76,7 +74,6 @@ pub fn hold<W: Site>(
 
 /// The row that the ticket keeps, as it was when it was held. Fails only for want of memory.
 pub fn fetch(caller: &Caller<'_>, tickets: &Tickets, ticket: u32) -> Result<Reply, AllocError>
-    requires { KnowsBase caller.now }
     ensures { (m : Machine) → IsCallerOf m caller.now → KeepsTickets tickets.now m
         → IfOk result (λ reply. reply ≡ reply_of m caller.now.session (Call.Fetch ticket)) }
 {
@@ -101,7 +98,6 @@ pub fn find<W: Site>(
     table: u32,
     tag: u32,
 ) -> Result<Reply, HeldError>
-    requires { KnowsBase caller.now }
     ensures reply { W.tells → Answers (W.state site.old) held.old caller.now (Call.Find table tag) result }
     ensures reads { ReadsOnly W.tells W.state W.counts site.old site.new held.old held.new result }
 {
@@ -116,7 +112,6 @@ pub fn scan<W: Site>(
     caller: &Caller<'_>,
     table: u32,
 ) -> Result<Reply, HeldError>
-    requires { KnowsBase caller.now }
     ensures reply { W.tells → Answers (W.state site.old) held.old caller.now (Call.Scan table) result }
     ensures reads { ReadsOnly W.tells W.state W.counts site.old site.new held.old held.new result }
 {
@@ -132,7 +127,6 @@ fn rows_of<W: Site>(
     table: u32,
     tag: Option<u32>,
 ) -> Result<Reply, HeldError>
-    requires { KnowsBase caller.now }
     ensures reply { W.tells → Answers (W.state site.old) held.old caller.now (call_for table tag) result }
     ensures reads { ReadsOnly W.tells W.state W.counts site.old site.new held.old held.new result }
 {

@@ -12,7 +12,7 @@ ghost use Rattle.px_model.specs.declared.machine.Open.{Open};
 ghost use Rattle.px_model.specs.Machine.{Machine, view};
 ghost use Rattle.px_model.specs.Rows.{row_at};
 ghost use Rattle.px_shown.specs.Tables.{AreSound};
-ghost use Rattle.px_answers.specs.Asking.{IsCallerOf, IsCallerOn, IsOpenIn, KnowsBase};
+ghost use Rattle.px_answers.specs.Asking.{IsCallerOf, IsCallerOn, IsOpenIn};
 ghost use Rattle.px_answers.specs.Reading.{ForReader, ReadsOnly, Stays};
 ghost use Rattle.px_answers.specs.Seeing.{Sees};
 ghost use Rattle.px_answers.specs.Writing.{Asks, FitsIn, IsAdmitted, IsAnswered, IsFound, MayAsk, MayWrite, committed_since, is_wrong, refusal_of};
@@ -96,7 +96,6 @@ pub fn may_write<W: Site>(
     locks: &Locks,
     asked: &Asked<'_>,
 ) -> Result<Result<Writer, Reply>, HeldError>
-    requires { KnowsBase caller.now }
     ensures may { W.tells → IsCallerOn held.old caller.now → (m : Machine) (store : Store) (call : Call)
         → Sees (W.state site.old) held.old caller.now.xacts.now locks.now m store → Asks call asked.now → IfOk result (λ answer. IfOk answer (MayWrite m caller.now.session call asked.now.table)) }
     ensures refused { W.tells → IsCallerOn held.old caller.now → (m : Machine) (store : Store) (call : Call)
@@ -123,7 +122,6 @@ pub fn may_write<W: Site>(
 
 /// The session's transaction, where nothing refuses it the write that needs no cell, and else the refusal.
 fn may_ask(caller: &Caller<'_>, asked: &Asked<'_>) -> Result<Opened, Reply>
-    requires { KnowsBase caller.now }
     ensures may { (m : Machine) → IsCallerOf m caller.now → IfOk result (MayAsk m caller.now.session asked.now) }
     ensures refused { (m : Machine) → IsCallerOf m caller.now → IfErr result (IsAnswered m caller.now.session asked.now) }
     ensures refusal { IfErr result (λ reply. is_refusal reply ≡ true) }
@@ -142,7 +140,7 @@ fn may_ask(caller: &Caller<'_>, asked: &Asked<'_>) -> Result<Opened, Reply>
     if !caller.fits_body(asked.body) {
         return Err(Reply::LimitBody);
     }
-    if caller.writes >= MOST_WRITES {
+    if opened.writes >= MOST_WRITES {
         return Err(Reply::LimitWrites);
     }
     Ok(opened)
@@ -167,7 +165,6 @@ fn committer<W: Site>(
     table: u8,
     row: Option<u32>,
 ) -> Result<Option<u64>, HeldError>
-    requires { KnowsBase caller.now }
     ensures number { W.tells → (holders : Holders) (m : Machine) (store : Store) (xact : Open) (key : List ℕ)
         → Sees (W.state site.old) held.old caller.now.xacts.now holders m store → IsOpenIn m caller.now.session xact opened.now
         → IsFound (store.tables table) key row → IfOk result (λ number. number ≡ writer_past m xact.snap (newest_committed m (table, key))) }
@@ -180,7 +177,7 @@ fn committer<W: Site>(
         return Ok(None);
     };
     let newest = held.newest_committed(site, table, row, caller.xacts)?;
-    Ok(committed_since(newest, caller.base, opened.snapshot))
+    Ok(committed_since(newest, caller.xacts.base(), opened.snapshot))
 }
 
 /// The number of the version's transaction, where it committed at or past the snapshot.

@@ -1,15 +1,17 @@
-ghost use Rattle.std.specs.Prelude.{◌≡◌, [], ◌∷◌, IfOk};
+ghost use Rattle.std.specs.Bool.{OnTrue};
+ghost use Rattle.std.specs.Prelude.{◌≡◌, ◌<◌, [], ◌∷◌, IfOk, IsSomeAnd, length};
+ghost use Rattle.px_model.specs.declared.limits.TheConstants.{MOST_WRITES};
+ghost use Rattle.px_xacts.specs.Transactions.{open_of};
 ghost use Rattle.px_chain.specs.Links.{IsStored};
 ghost use Rattle.px_held.specs.Serving.{AreNumbered};
-ghost use Rattle.px_answers.specs.Asking.{KnowsBase};
-ghost use Rattle.px_answers_tests.specs.declared.making.TheConstants.{BASE, SHORT};
+ghost use Rattle.px_answers_tests.specs.declared.making.TheConstants.{SHORT};
 
 use px_answers::Caller;
 use px_calls::{Reply, reply_text};
 use px_cells::{Slot, SlotState};
 use px_held::{Held, Prepared};
 use px_memsite::MemSite;
-use px_model::{Bytes, Session};
+use px_model::{Bytes, MOST_WRITES, Session};
 use px_tables::{Place, Table};
 use px_xacts::{Begun, WriteAt, Xacts};
 use std::alloc::{AllocError, Global};
@@ -18,7 +20,7 @@ use std::test::Fail;
 pub(crate) const SHORT: u32 = 16;
 
 /// The greatest stored number at the opening.
-pub(crate) const BASE: u64 = 10;
+const BASE: u64 = 10;
 
 /// The only table of a store whose short length is `SHORT`.
 #[derive(Drop)]
@@ -121,9 +123,7 @@ pub(crate) fn held(alloc: Global, versions: &[(u8, u32, bool)]) -> Result<Held, 
 
 /// The transactions since the opening. Session 2 began first; then session 0 began, wrote and committed; then session 1 began.
 /// Their stored numbers are 11, 12 and 13.
-pub(crate) fn xacts(alloc: Global) -> Result<Xacts, Fail>
-    ensures { IfOk result (λ all. all.base ≡ BASE) }
-{
+pub(crate) fn xacts(alloc: Global) -> Result<Xacts, Fail> {
     let mut all = Xacts::new(alloc, BASE)?;
     let writer = session(0)?;
     let _first = all.begin(session(2)?, 0)?;
@@ -142,20 +142,47 @@ pub(crate) fn xacts(alloc: Global) -> Result<Xacts, Fail>
     Ok(all)
 }
 
+/// Adds so many writes to the session's transaction, but no more than it may have.
+pub(crate) fn add_writes(
+    alloc: Global,
+    all: &mut Xacts,
+    session: Session,
+    writes: usize,
+) -> Result<(), AllocError> {
+    for _write in 0..writes {
+        if !may_add(all, session) {
+            return Ok(());
+        }
+        let write = WriteAt {
+            table: 1,
+            row: 1,
+            slot: 1,
+            key: Bytes::new(alloc),
+        };
+        all.add_write(session, write)?;
+    }
+    Ok(())
+}
+
+/// Tells whether the session's transaction may have one more write.
+fn may_add(all: &Xacts, session: Session) -> bool
+    ensures { OnTrue result (IsSomeAnd (open_of all.now session) (λ transaction. length transaction.writes < MOST_WRITES)) }
+{
+    match all.open_of(session) {
+        Some(transaction) => transaction.writes.as_slice().len() < MOST_WRITES,
+        None => false,
+    }
+}
+
 pub(crate) fn session(number: u8) -> Result<Session, Fail> {
     Ok(Session::of(number).ok_or("no such session")?)
 }
 
-/// That session, which made so many writes.
-pub(crate) fn caller(all: &Xacts, session: Session, writes: usize) -> Caller<'_>
-    requires { all.now.base ≡ BASE }
-    ensures { KnowsBase result }
-{
+/// That session.
+pub(crate) fn caller(all: &Xacts, session: Session) -> Caller<'_> {
     Caller {
         session,
         xacts: all,
-        base: BASE,
-        writes,
         tables: 1,
         short: SHORT,
     }

@@ -29,7 +29,7 @@ fn each_session_gets_its_rows(rt: HostRuntime) -> Result<(), Fail> {
         (1, b"d", "none\n"),
         (0, b"a", "no transaction\n"),
     ] {
-        let caller = caller(all, session(number)?, 0);
+        let caller = caller(all, session(number)?);
         let reply = get(&mut site, &mut held, &caller, 1, key)?;
         assert_eq!(rt; text(rt.alloc(), &reply)?.as_slice(), replied.as_bytes());
     }
@@ -46,12 +46,12 @@ fn each_session_scans_its_rows(rt: HostRuntime) -> Result<(), Fail> {
         (2, "found 2\nat 61 3 -\nat 63 4 -\n"),
         (1, "found 2\nat 61 12 -\nat 62 13 -\n"),
     ] {
-        let caller = caller(all, session(number)?, 0);
+        let caller = caller(all, session(number)?);
         let reply = scan(rt.alloc(), &mut site, &mut held, &caller, 1)?;
         assert_eq!(rt; text(rt.alloc(), &reply)?.as_slice(), replied.as_bytes());
     }
     for (number, tag, replied) in [(2, 4, "found 1\nat 63 4 -\n"), (1, 4, "found 0\n")] {
-        let caller = caller(all, session(number)?, 0);
+        let caller = caller(all, session(number)?);
         let reply = find(rt.alloc(), &mut site, &mut held, &caller, 1, tag)?;
         assert_eq!(rt; text(rt.alloc(), &reply)?.as_slice(), replied.as_bytes());
     }
@@ -73,7 +73,7 @@ fn a_ticket_keeps_its_row(rt: HostRuntime) -> Result<(), Fail> {
         (b"a", "held 4\n"),
         (b"a", "limit tickets\n"),
     ] {
-        let caller = caller(all, session(1)?, 0);
+        let caller = caller(all, session(1)?);
         let reply = hold(&mut site, &mut held, &caller, &mut tickets, 1, key)?;
         assert_eq!(rt; text(rt.alloc(), &reply)?.as_slice(), replied.as_bytes());
     }
@@ -83,12 +83,12 @@ fn a_ticket_keeps_its_row(rt: HostRuntime) -> Result<(), Fail> {
         (1, 0, "no ticket\n"),
         (2, 1, "no ticket\n"),
     ] {
-        let caller = caller(all, session(number)?, 0);
+        let caller = caller(all, session(number)?);
         let reply = fetch(&caller, &tickets, ticket)?;
         assert_eq!(rt; text(rt.alloc(), &reply)?.as_slice(), replied.as_bytes());
     }
     tickets.clear(session(1)?);
-    let caller = caller(all, session(1)?, 0);
+    let caller = caller(all, session(1)?);
     let reply = fetch(&caller, &tickets, 1)?;
     assert_eq!(rt;
         text(rt.alloc(), &reply)?.as_slice(),

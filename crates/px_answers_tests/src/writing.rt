@@ -1,4 +1,4 @@
-use crate::making::{caller, held, session, text, xacts};
+use crate::making::{add_writes, caller, held, session, text, xacts};
 use px_answers::{Asked, may_write};
 use px_locks::Locks;
 use px_memsite::MemSite;
@@ -25,7 +25,7 @@ fn inserts_are_refused_in_order(rt: HostRuntime) -> Result<(), Fail> {
     for (number, writes, table, key, body, answer) in [
         (
             0,
-            10_000,
+            0,
             2,
             b"".as_slice(),
             LONG_BODY.as_slice(),
@@ -109,15 +109,16 @@ fn updates_and_deletions_want_a_row(rt: HostRuntime) -> Result<(), Fail> {
     Ok(())
 }
 
-/// The text of the refusal, or a line with the writer's stored number.
+/// The text of the refusal, or a line with the writer's stored number, where the session's transaction made so many writes.
 fn answer_to(alloc: Global, number: u8, writes: usize, asked: &Asked<'_>) -> Result<Vec<u8>, Fail> {
-    let all = xacts(alloc)?;
-    let all = &all;
+    let mut all = xacts(alloc)?;
+    let session = session(number)?;
+    add_writes(alloc, &mut all, session, writes)?;
     let mut held = held(alloc, &VERSIONS)?;
     let mut site = MemSite::new(alloc)?;
     let mut locks = Locks::new(alloc)?;
     locks.take(1, b"b", 3)?;
-    let caller = caller(all, session(number)?, writes);
+    let caller = caller(&all, session);
     match may_write(&mut site, &mut held, &caller, &locks, asked)? {
         Ok(writer) => Ok(format!(in alloc; "{}\n", writer.stored)?.into_bytes()),
         Err(refusal) => Ok(text(alloc, &refusal)?),

@@ -1,6 +1,6 @@
 //! The cells of a store hold the chains of the machine, before and after each call and each step of the sweeper.
 //!
-//! The machine says what a store means: it has a chain of variations for each key. A store's cells hold these chains in its
+//! The machine says what a store means: it has a chain of versions for each key. A store's cells hold these chains in its
 //! tables' slots. A call that writes goes with one step of the store, the link of a version; an end of a transaction with
 //! writes with a commit or a rollback; every other call with none. A step of the sweeper goes with an unlink of one version or
 //! two, or with none. A move of a part changes no chain. Nothing here runs.

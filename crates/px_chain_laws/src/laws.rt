@@ -44,7 +44,7 @@ pub fn what_is_seen_is_the_view()
         → in_order m.opening ≡ true → in_order rows ≡ true → ((key : Key) → row_at key rows ≡ row_seen (seen m xact key)) → rows ≡ view m xact }
 {}
 
-/// A write is the newest variation of its key, where no other open transaction has written that, and no other chain changes. A
+/// A write is the newest version of its key, where no other open transaction has written that, and no other chain changes. A
 /// call that is answered makes its write so.
 pub fn a_write_is_the_newest_variation()
     ensures write { (m : Machine) (session : ℕ) (xact : Open) (w : Write) → open_of m session ≡ Some xact
@@ -67,8 +67,8 @@ pub fn calls_that_write_nothing_keep_chains()
         → chain (state_after m session call) key ≡ chain m key }
 {}
 
-/// Who was the last to commit a write of a key at or past a snapshot is told by the newest committed variation of its chain. So
-/// whom a write would meet is told by who holds its key and by that variation.
+/// Who was the last to commit a write of a key at or past a snapshot is told by the newest committed version of its chain. So
+/// whom a write would meet is told by who holds its key and by that version.
 pub fn a_conflict_stands_in_the_chain()
     ensures committed { (m : Machine) (session : ℕ) (xact : Open) (key : Key) → IsKept m → open_of m session ≡ Some xact
         → last_writer key (drop xact.snap m.ended) ≡ writer_past m xact.snap (newest_committed m key) }
