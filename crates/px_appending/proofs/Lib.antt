@@ -1,0 +1,4 @@
+pub mod Ends
+pub mod Flushing
+pub mod Going
+pub mod Versions
