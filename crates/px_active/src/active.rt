@@ -30,7 +30,8 @@ pub struct Active {
 }
 
 impl Active {
-    /// That of a store that was just opened, where `base` is the last stored number that was given out: nobody has begun.
+    /// That of a store that was just opened, where `base` is the last stored number that was given out: nobody has begun. Fails only
+    /// for want of memory.
     pub fn new(alloc: Global, base: u64, commits: u64) -> Result<Active, AllocError>
         requires { base < STORED_NUMBERS_END }
         ensures is { (tables short : ℕ) (opening : List Row) → IfOk result (IsActiveOf (fresh tables short opening commits base)) }
