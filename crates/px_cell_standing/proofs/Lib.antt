@@ -1,0 +1,14 @@
+pub mod Beginning
+pub mod Cutting
+pub mod Finding
+pub mod Going
+pub mod Lasting
+pub mod Made
+pub mod Naming
+pub mod Next
+pub mod One
+pub mod Opened
+pub mod Plain
+pub mod Resting
+pub mod Scanning
+pub mod Syncing

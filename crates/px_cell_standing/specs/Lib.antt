@@ -1,0 +1,5 @@
+pub mod Found
+pub mod Images
+pub mod Naming
+pub mod Settled
+pub mod Standing
