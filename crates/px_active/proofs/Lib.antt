@@ -1,3 +1,3 @@
-mod Calls
+pub mod Calls
 mod Ending
 mod Writing

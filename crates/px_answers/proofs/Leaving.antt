@@ -21,7 +21,7 @@ use Rattle.px_answers.specs.Seeing.{Sees}
 pub stays_here : {W : Type 0} (tells : Type 0) (state : W → State) (counts : W → Counts) (site : W) (held : HeldTables) → Stays tells state counts site site held held
 stays_here tells state counts site held = record {
   form = record { short = refl; count = refl };
-  keeps = λ told store serves. serves;
+  keeps = λ store serves. serves;
   same = λ told. refl;
   none_fell = no_fall;
 }
@@ -30,7 +30,7 @@ pub then_stays : {W tells : Type 0} {state : W → State} {counts : W → Counts
     → Stays tells state counts b c k l → Stays tells state counts a c h l
 then_stays p q = record {
   form = record { short = q.form.short ∙ p.form.short; count = q.form.count ∙ p.form.count };
-  keeps = λ told store serves. q.keeps told store (p.keeps told store serves);
+  keeps = λ store serves. q.keeps store (p.keeps store serves);
   same = λ told. q.same told ∙ p.same told;
   none_fell = then_none_fell p.none_fell q.none_fell;
 }
@@ -44,7 +44,7 @@ earlier_cause a b c (Damaged file place) fell cause = tt
 pub sees_still : {W tells : Type 0} {state : W → State} {counts : W → Counts} {a b : W} {h k : HeldTables} {all : Transactions} {holders : Holders} {m : Machine}
     {store : Store} → tells → Stays tells state counts a b h k → Sees (state a) h all holders m store → Sees (state b) k all holders m store
 sees_still {store = store} told stays sees = record {
-  serves = stays.keeps told store sees.serves;
+  serves = stays.keeps store sees.serves;
   holds = sees.holds;
   kept = sees.kept;
   order = sees.order;
@@ -82,7 +82,7 @@ reads_behind {counts = counts} {a = a} {b = b} {c = c} result before behind faul
   stays = then_stays before behind;
   cause = record {
     fault = earlier_fault (counts a) (counts b) (counts c) result before.none_fell fault;
-    sound = λ told short store serves are. sound told short store serves (before.keeps told store serves) are;
+    sound = λ told short store serves are. sound told short store serves (before.keeps store serves) are;
   };
 }
 

@@ -27,7 +27,7 @@ use Rattle.px_site.specs.State.{State}
 pub record Stays {W : Type 0} (tells : Type 0) (state : W → State) (counts : W → Counts) (site_old site_new : W) (held_old held_new : HeldTables)
     : Type 0 where
   pub form : HasSameForm held_old held_new
-  pub keeps : tells → (store : Store) → Serves (state site_old) held_old store → Serves (state site_new) held_new store
+  pub keeps : (store : Store) → Serves (state site_old) held_old store → Serves (state site_new) held_new store
   pub same : tells → state site_new ≡ state site_old
   pub none_fell : NoneFell (counts site_old) (counts site_new)
 

@@ -1,6 +1,7 @@
 ghost use Rattle.std.specs.Prelude.{◌≡◌, ◌<◌, ◌≤◌, IfErr, IfOk, IfSome, length, option_map, true};
 ghost use Rattle.std.specs.Bool.{OnTrue};
 ghost use Rattle.px_calls.specs.Steps.{fits_key, has_table, is_refusal};
+ghost use Rattle.px_history.specs.Fitting.{IsStoredNumber};
 ghost use Rattle.px_model.specs.Machine.{Machine};
 ghost use Rattle.px_tables.specs.Linking.{IsKey};
 ghost use Rattle.px_xacts.specs.Transactions.{open_of};
@@ -37,7 +38,8 @@ pub(crate) struct Opened {
 impl<'a> Caller<'a> {
     /// The session's open transaction.
     pub(crate) fn opened(&self) -> Option<Opened>
-        ensures { result ≡ option_map (opened_of self.now.xacts.now) (open_of self.now.xacts.now self.now.session) }
+        ensures is { result ≡ option_map (opened_of self.now.xacts.now) (open_of self.now.xacts.now self.now.session) }
+        ensures stored { IfSome result (λ opened. IsStoredNumber opened.stored) }
     {
         let transaction = self.xacts.open_of(self.session)?;
         Some(Opened {

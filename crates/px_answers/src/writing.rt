@@ -6,6 +6,7 @@ ghost use Rattle.px_calls.specs.Steps.{is_refusal, reply_of};
 ghost use Rattle.px_chain_laws.specs.Reading.{newest_committed, writer_past};
 ghost use Rattle.px_held.specs.Errors.{HasReadCause, IsPassing};
 ghost use Rattle.px_held.specs.Serving.{Serves};
+ghost use Rattle.px_history.specs.Fitting.{IsStoredNumber};
 ghost use Rattle.px_history.specs.Store.{Store};
 ghost use Rattle.px_locks.specs.Holders.{Holders, unless_held_by};
 ghost use Rattle.px_model.specs.declared.machine.Open.{Open};
@@ -102,6 +103,7 @@ pub fn may_write<W: Site>(
         → Sees (W.state site.old) held.old caller.now.xacts.now locks.now m store → Asks call asked.now → IfOk result (λ answer. IfErr answer (λ reply. reply ≡ reply_of m caller.now.session call)) }
     ensures refusal { IfOk result (λ answer. IfErr answer (λ reply. is_refusal reply ≡ true)) }
     ensures admitted { IfOk result (λ answer. IfOk answer (IsAdmitted caller.now locks.now asked.now)) }
+    ensures stored { IfOk result (λ answer. IfOk answer (λ writer. IsStoredNumber writer.stored)) }
     ensures reads { ReadsOnly W.tells W.state W.counts site.old site.new held.old held.new result }
 {
     let opened = match may_ask(caller, asked) {
@@ -126,6 +128,7 @@ fn may_ask(caller: &Caller<'_>, asked: &Asked<'_>) -> Result<Opened, Reply>
     ensures refused { (m : Machine) → IsCallerOf m caller.now → IfErr result (IsAnswered m caller.now.session asked.now) }
     ensures refusal { IfErr result (λ reply. is_refusal reply ≡ true) }
     ensures fits { IfOk result (FitsIn caller.now asked.now) }
+    ensures stored { IfOk result (λ opened. IsStoredNumber opened.stored) }
     ensures small { IfOk result (λ _. asked.now.table < 256) }
 {
     let Some(opened) = caller.opened() else {

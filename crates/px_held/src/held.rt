@@ -1,4 +1,4 @@
-ghost use Rattle.std.specs.Prelude.{◌≡◌, ◌≤◌, ℕ, IfErr, IfOk, IsTrue, MatchOption, ◌↔◌};
+ghost use Rattle.std.specs.Prelude.{◌≡◌, ◌≤◌, ℕ, IfErr, IfOk, IsTrue, MatchOption, ◌↔◌, length};
 ghost use Rattle.px_cells.specs.Form.{is_short};
 ghost use Rattle.px_cells.specs.declared.cell.CellKind.TheVariants.{Slot};
 ghost use Rattle.px_chain.specs.Sound.{IsSlot, IsUsedRow};
@@ -54,6 +54,20 @@ impl Held {
             → AreSound short store.tables store.layouts → Serves site result store }
     {
         Held { short, tables }
+    }
+
+    /// How many tables the store has: their numbers go from 1 to this one.
+    pub fn tables(&self) -> usize
+        ensures { result ≡ length self.now.tables }
+    {
+        self.tables.len()
+    }
+
+    /// How many bytes of a row's body stand in its slot at most.
+    pub fn short(&self) -> u32
+        ensures { result ≡ self.now.short }
+    {
+        self.short
     }
 
     /// The table with this number. None where the store has no such table.

@@ -10,3 +10,4 @@ pub mod LogReading
 pub mod OtherFiles
 pub mod Refusals
 pub mod Windows
+pub mod Alone

@@ -30,6 +30,7 @@ pub fn open_log<W: Site>(
     ensures held { IfOk result (λ opened. MayStand restart.now.tables 0 restart.now.short opened.1) }
     ensures count { IfOk result (λ opened. opened.0.frames ≡ length opened.1) }
     ensures below { IfOk result (λ opened. opened.0.frames ≤ 2 ^ 48) }
+    ensures reached { IfOk result (λ opened. restart.now.durable ≤ opened.0.frames) }
     ensures marks { IfOk result (λ opened. (opened.0.tables ≡ restart.now.tables) × (opened.0.short ≡ restart.now.short) × (opened.0.durable ≡ opened.0.frames)) }
     ensures logged { W.tells → IfOk result (λ opened. IsLogOf opened.0 opened.1 (W.state site.new)) }
     ensures left { W.tells → IfOk result (λ opened.

@@ -1,4 +1,4 @@
-ghost use Rattle.std.specs.Prelude.{◌≡◌, ℕ, ◌*◌, ◌^◌, ◌≤◌, true, false, List, [], ◌∷◌, ◌++◌, Some, IfOk, IfErr, IsErrOf, OnOk, OnErr};
+ghost use Rattle.std.specs.Prelude.{◌≡◌, ⊤, ℕ, ◌*◌, ◌^◌, ◌≤◌, true, false, List, [], ◌∷◌, ◌++◌, Some, IfOk, IfErr, IsErrOf, OnOk, OnErr};
 ghost use Rattle.px_change.specs.Grammar.{may_hold};
 ghost use Rattle.px_change.specs.declared.change.Change.{Change};
 ghost use Rattle.px_site.specs.Cause.{HasCause, IsOwn, NoneFell, Rose};
@@ -76,6 +76,7 @@ impl Xlog {
             → (W.state site.new).content name ≡ (W.state site.old).content name }
         ensures moments { W.tells → (changes : List Change) → IsLogOf self.old changes (W.state site.old)
             → EachMoment (OnFile the_log (W.state site.old).now (HasFirst self.old.durable (changes ++ change.now ∷ []))) (W.state site.old) (W.state site.new) }
+        ensures log_alone { W.tells → EachMoment (OnFile the_log (W.state site.old).now (λ file. ⊤)) (W.state site.old) (W.state site.new) }
         ensures full { full_at self.old ≡ Some self.old.frames → IsErrOf result (LogError.LogFull self.old.frames) }
         ensures room { change.now.cells ≡ []
             → IfErr result (λ error. OnShortage error (Rose (W.counts site.old).shorts (W.counts site.new).shorts)) }
@@ -108,6 +109,7 @@ impl Xlog {
             → (W.state site.new).content name ≡ (W.state site.old).content name }
         ensures moments { W.tells → (changes : List Change) → IsLogOf self.old changes (W.state site.old)
             → EachMoment (OnFile the_log (W.state site.old).now (HasFirst self.old.durable changes)) (W.state site.old) (W.state site.new) }
+        ensures log_alone { W.tells → EachMoment (OnFile the_log (W.state site.old).now (λ file. ⊤)) (W.state site.old) (W.state site.new) }
         ensures none_fell { NoneFell (W.counts site.old) (W.counts site.new) }
         ensures cause { IfErr result (HasCause (W.counts site.old) (W.counts site.new)) }
         ensures own { IfErr result (IsOwn Fault.Sync) }

@@ -5,3 +5,4 @@ pub mod Harm
 pub mod Found
 pub mod Kept
 pub mod OneDamage
+pub mod Counted

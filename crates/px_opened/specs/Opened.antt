@@ -1,5 +1,6 @@
 -- The tables that the places of cells open to.
 use Rattle.std.specs.Prelude.{◌≡◌, ℕ, suc, List, [], ◌∷◌, fold}
+use Rattle.px_cells.specs.Unused.{free_pointer, unused_slot}
 use Rattle.px_change.specs.declared.change.Change.{Change}
 use Rattle.px_chain.specs.Sound.{IsPlace, IsSlot, IsSound, Layout, no_layout, no_places}
 use Rattle.px_chain.specs.Table.{Table}
@@ -63,6 +64,11 @@ pub record IsOpened (short : ℕ) (places : Places) (number : ℕ) (cells : Cell
   pub its_short : cells.short ≡ short
   pub layout : Layout
   pub opens : OpensTo short places number (table_of cells) layout
+
+-- the places that the header doesn't count are as those that were never used
+pub record IsCounted (table : Table) : Type 0 where
+  pub slots : (n : ℕ) → ¬ IsSlot table n → table.slot n ≡ unused_slot
+  pub pointers : (n : ℕ) → ¬ IsPlace (rows_of table.header) n → table.pointer n ≡ free_pointer
 
 -- they are the tables of a store with so many, in order of their numbers
 abbrev pub AreOpened : (short tables : ℕ) → Places → List Held → Type 0

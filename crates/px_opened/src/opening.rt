@@ -1,4 +1,4 @@
-ghost use Rattle.std.specs.Prelude.{◌≡◌, ◌⊎◌, ◌≤◌, IfErr, IfOk, IsTrue};
+ghost use Rattle.std.specs.Prelude.{◌≡◌, ◌⊎◌, ◌≤◌, ℕ, IfErr, IfOk, IsTrue};
 ghost use Rattle.px_cells.specs.Form.{is_short};
 ghost use Rattle.px_chain.specs.Sound.{Layout};
 ghost use Rattle.px_laid.specs.Places.{places};
@@ -7,8 +7,9 @@ ghost use Rattle.px_recs.specs.Place.{is_number_of, place_of, table_file};
 ghost use Rattle.px_model.specs.declared.limits.TheConstants.{MOST_TABLES};
 ghost use Rattle.px_shown.specs.Tables.{Layouts};
 ghost use Rattle.px_opened.specs.Damage.{IsErrorIn, IsErrorOf, flawed_kind, flawed_number};
-ghost use Rattle.px_opened.specs.Opened.{AreOpened, IsOpened, Opens, tables_of};
+ghost use Rattle.px_opened.specs.Opened.{AreOpened, IsCounted, IsOpened, Opens, tables_of};
 ghost use Rattle.px_opened.specs.declared.error.OpenedError.TheVariants.{Damaged};
+ghost use Rattle.px_tables.specs.Held.{table_of};
 
 use crate::error::OpenedError;
 use px_cells::CellKind;
@@ -19,7 +20,8 @@ use px_tables::Table;
 use std::alloc::{AllocError, Global};
 
 /// The tables of a store with so many tables, 1 to 8, and that short length, 16 to 1,024 bytes, in order of their numbers: each
-/// has the cells that were laid. Where a table can't be had, the first damage comes, unless memory was short before it was met.
+/// has the cells that were laid, and none that its header doesn't count. Where a table can't be had, the first damage comes,
+/// unless memory was short before it was met.
 pub fn open_tables(
     alloc: Global,
     tables: u32,
@@ -30,6 +32,7 @@ pub fn open_tables(
     requires short { IsTrue (is_short short) }
     ensures ok { IfOk result (λ opened. AreOpened short tables (places laid.now) opened.items) }
     ensures opens { IfOk result (λ opened. (layouts : Layouts) × Opens short tables (places laid.now) (tables_of opened.items) layouts) }
+    ensures counted { IfOk result (λ opened. (t : ℕ) → IsCounted (tables_of opened.items t)) }
     ensures err { IfErr result (IsErrorIn short tables (places laid.now)) }
 {
     let mut opened = Vec::new(alloc);
@@ -43,6 +46,7 @@ pub fn open_tables(
 fn open_table(alloc: Global, number: u8, short: u32, laid: &Laid) -> Result<Table, OpenedError>
     requires { IsTrue (is_short short) }
     ensures ok { IfOk result (λ table. IsOpened short (places laid.now) number table.cells) }
+    ensures counted { IfOk result (λ table. IsCounted (table_of table.cells)) }
     ensures err { IfErr result (IsErrorOf short (places laid.now) number) }
 {
     let cells = read_table(alloc, number, short, laid)?;

@@ -1,18 +1,20 @@
 -- The causes of errors, and that none is damage where the cells are sound.
-use Rattle.std.proofs.Common.{◌≡◌, ℕ, ◌≤◌, Some, None, Option, IfErr, Result, Ok, Err, sym, ap, subst, ◌∙◌, arith, refl, inl, inr}
+use Rattle.std.proofs.Common.{◌≡◌, ℕ, ◌≤◌, Bool, true, false, Some, None, Option, IfErr, Result, Ok, Err, sym, ap, subst, ◌∙◌, arith, refl, inl, inr}
 use Rattle.std.specs.Prelude.{cond, is_some, nat_lt, unwrap_or}
 use Rattle.std.proofs.lemmas.Bool.{cases_Bool, false≢true, ltb-false}
 use Rattle.px_held.specs.Errors as held
 use Rattle.px_held.specs.declared.error.HeldError.{HeldError}
 use Rattle.px_held.specs.declared.error.HeldError.TheVariants as held_errors
-use Rattle.px_log.specs.Errors.{HasLogCause}
+use Rattle.px_log.specs.Errors.{HasLogCause, IsFaultOf}
 use Rattle.px_log.specs.Log.{Log, full_at, most_frames}
 use Rattle.px_log.specs.declared.error.LogError.{LogError}
 use Rattle.px_log.specs.declared.error.LogError.TheVariants as log_errors
-use Rattle.px_site.specs.Cause.{Counts, HasCause, NoneFell, Rose}
+use Rattle.px_site.specs.Cause.{Counts, HasCause, IsOwn, NoneFell, Rose}
+use Rattle.px_site.specs.declared.error.Fault.{Fault as SiteFault}
+use Rattle.px_site.specs.declared.error.Fault.TheVariants.{Read, Sync, Tell, Write}
 use Rattle.px_site.specs.declared.error.SiteError.{SiteError}
 use Rattle.px_site.specs.declared.error.SiteError.TheVariants as site_errors
-use Rattle.px_tidying.specs.Errors.{HasTidyCause, IsPassing, of_held, of_log, of_site}
+use Rattle.px_tidying.specs.Errors.{HasTidyCause, IsFileFault, IsPassing, of_held, of_log, of_site}
 use Rattle.px_tidying.specs.declared.error.TidyError.{TidyError}
 use Rattle.px_tidying.specs.declared.error.TidyError.TheVariants.{OutOfMemory, Fault, LogFull, Damaged}
 
@@ -63,3 +65,32 @@ log_passes (log_errors.LogFull frame) = tt
 pub site_passes : (e : SiteError) → IsPassing (of_site e)
 site_passes site_errors.OutOfMemory = tt
 site_passes (site_errors.Fault fault) = tt
+
+-- ---- faults of files
+
+abbrev is_tell : SiteFault → Bool
+is_tell Tell = true
+is_tell fault = false
+
+read_not_tell : Read ≡ Tell → ⊥
+read_not_tell e = false≢true (ap is_tell e)
+
+write_not_tell : Write ≡ Tell → ⊥
+write_not_tell e = false≢true (ap is_tell e)
+
+sync_not_tell : Sync ≡ Tell → ⊥
+sync_not_tell e = false≢true (ap is_tell e)
+
+pub held_own : (old new : Counts) (e : HeldError) → held.HasReadCause old new e → IsFileFault (of_held e)
+held_own old new held_errors.OutOfMemory cause = tt
+held_own old new (held_errors.Fault fault) cause = λ is. read_not_tell (sym cause.0 ∙ is)
+held_own old new (held_errors.Damaged file place) cause = tt
+
+pub log_own : (e : LogError) → IsFaultOf Write e → IsFileFault (of_log e)
+log_own log_errors.OutOfMemory own = tt
+log_own (log_errors.Fault fault) own = λ is. write_not_tell (sym own ∙ is)
+log_own (log_errors.LogFull frame) own = tt
+
+pub site_own : (e : SiteError) → IsOwn Sync e → IsFileFault (of_site e)
+site_own site_errors.OutOfMemory own = tt
+site_own (site_errors.Fault fault) own = λ is. sync_not_tell (sym own ∙ is)

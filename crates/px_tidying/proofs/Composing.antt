@@ -107,7 +107,7 @@ both_last tells store steps a b c made first second t parts least m life restart
     let told : b.site.now.told ≡ a.site.now.told =
     last_moment (λ now. now.told ≡ a.site.now.told) a.site b.site refl (weaker_moments (λ now still. still.told) before) in
     then_moments before
-    (weaker_moments (λ now still. record { life = still.life; marks = still.marks; lasts = still.lasts; told = still.told ∙ told })
+    (weaker_moments (λ now still. record { life = still.life; marks = still.marks; lasts = still.lasts; told = still.told ∙ told; telling = still.telling })
     (second t parts least m (with_steps restart.short life steps) restart marks at middle))
 
 -- a call that only reads before it makes no difference

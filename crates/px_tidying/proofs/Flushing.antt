@@ -35,13 +35,14 @@ meanwhile parts least m life restart marks old has now on = record {
   lasts = synced_meanwhile parts least marks.durable m life restart marks old.site.now now has.lasts on.others (omega arith) has.lasts.reachable.end
       (subst (λ (n : ℕ). LeavesFronts n life.changes (now.files the_log)) has.durable on.this.each);
   told = on.told;
+  telling = on.telling;
 }
 
 pub flush_lasts : (tells : Type 0) (store : Store) (old new : Opening) → HasFronts tells old new → LastsThrough tells store old new
 flush_lasts tells store old new moments tell parts least m life restart marks its has =
     weaker_moments (meanwhile parts least m life restart marks old has) (moments tell life.changes has.logged)
 
-flush_store : (store : Store) (old new : Opening) → HasStore store old → new.held ≡ old.held → new.log ≡ record old.log { durable = old.log.frames } → HasStore store new
+pub flush_store : (store : Store) (old new : Opening) → HasStore store old → new.held ≡ old.held → new.log ≡ record old.log { durable = old.log.frames } → HasStore store new
 flush_store store old new has held log = record {
   serves = anywhere old.site new.site new.held store (subst (λ (h : HeldTables). Serves old.site h store) (sym held) has.serves);
   numbers = has.numbers;

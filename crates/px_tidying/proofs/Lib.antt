@@ -8,3 +8,4 @@ pub mod Next
 pub mod Past
 pub mod Readying
 pub mod Rows
+pub mod Quiet

@@ -203,6 +203,7 @@ module _ (parts : Parts) (least : ℕ) (m : Machine) (life : Life) (restart : Re
         (subst (λ (n : ℕ). LeavesFronts n (life.changes ++ change ∷ []) (now.files the_log)) has.durable
         (subst (λ (c : Change). LeavesFronts old.log.durable (life.changes ++ c ∷ []) (now.files the_log)) (same_change given is) on.this.each));
     told = on.told;
+    telling = on.telling;
   }
 
   pub life_left : (given : Change) (new : Opening) → given ≡ change_of old.held.short store (unlink_of t row place)

@@ -1,5 +1,6 @@
 -- The least number past those of all versions of the tables is past those in the chains, and no less.
-use Rattle.std.proofs.Common.{◌≡◌, ℕ, ◌<◌, ◌≤◌, All, IfOk, List, [], ◌∷◌, Ok, Err, Result, length, map, sym, subst, arith}
+use Rattle.std.proofs.Common.{◌≡◌, ℕ, ◌<◌, ◌≤◌, All, IfErr, IfOk, List, [], ◌∷◌, Ok, Err, Result, length, map, sym, subst, arith}
+use Rattle.std.specs.Prelude.{IsErrAnd}
 use Rattle.std.proofs.lemmas.List.Elements.{All-cons, All-contains, All-head, All-map, All-nil, All-tail, All-weaker}
 use Rattle.px_beginning.specs.Numbers.{IsNext, IsUnnamed}
 use Rattle.px_cells.specs.declared.slot.Slot.{Slot}
@@ -7,19 +8,27 @@ use Rattle.px_chain.specs.Sound.{IsSound, IsUsedRow, IsVariation}
 use Rattle.px_change.specs.declared.change.Change.{Change}
 use Rattle.px_held.proofs.Serving.{served}
 use Rattle.px_held.proofs.Unlinked.{used_there}
-use Rattle.px_held.specs.Numbers.{IsVersion}
+use Rattle.px_held.specs.Errors.{IfDamage}
+use Rattle.px_held.specs.Numbers.{IsUnstoredAt, IsVersion}
 use Rattle.px_held.specs.Serving.{HeldTables, Serves}
+use Rattle.px_held.specs.declared.error.HeldError.{HeldError}
+use Rattle.px_held.specs.declared.error.HeldError.TheVariants.{OutOfMemory, Fault, Damaged}
 use Rattle.px_history.specs.Fitting.{IsStoredNumber, IsTable}
 use Rattle.px_history.specs.Store.{Store}
 use Rattle.px_life.specs.Front.{AreStored, HasStoredNumber}
 use Rattle.px_restart.specs.declared.restart.Restart.{Restart}
-use Rattle.px_shown.specs.Tables.{AreSound, slots_of_row}
+use Rattle.px_shown.specs.Tables.{AreSound, Tables, slots_of_row}
 use Rattle.px_site.specs.State.{State}
-use Rattle.px_tidying.specs.Numbers.{AreVersionsBelow, IsPastChanges, IsPastTables}
+use Rattle.px_tidying.specs.Numbers.{AreVersionsBelow, IsPastChanges, IsPastTables, IsUnstoredIn}
 
 pub ok_weaker : {T E : Type 0} (r : Result T E) (P Q : T → Type 0) → ((x : T) → P x → Q x) → IfOk r P → IfOk r Q
 ok_weaker (Ok x) P Q f p = f x p
 ok_weaker (Err e) P Q f p = tt
+
+-- the error that a `?` hands on
+pub if_err : {T E : Type 0} (r : Result T E) (P : E → Type 0) (error : E) → IsErrAnd r (λ e. e ≡ error) → P error → IfErr r P
+if_err (Ok x) P error is holds = tt
+if_err (Err e) P error is holds = subst P (sym is) holds
 
 unmapped : (P : Slot → Type 0) (slot : ℕ → Slot) (chain : List ℕ) → All P (map slot chain) → All (λ n. P (slot n)) chain
 unmapped P slot [] all = All-nil (λ (n : ℕ). P (slot n))
@@ -68,3 +77,11 @@ module _ (site : State) (held : HeldTables) (store : Store) (tables : ℕ) (serv
         };
         least = λ other unnamed. versions.least other (frames.least other unnamed.restart_is unnamed.frames) (below_all other unnamed.versions);
       }
+
+-- ---- a version without one
+
+pub unstored_in : (short last number : ℕ) (tables : Tables) (error : HeldError) → IsTable last number → IfDamage (IsUnstoredAt short number (tables number)) error
+    → IfDamage (IsUnstoredIn short last tables) error
+unstored_in short last number tables OutOfMemory within is = tt
+unstored_in short last number tables (Fault fault) within is = tt
+unstored_in short last number tables (Damaged file place) within is = record { number = number; within = within; unstored = is }

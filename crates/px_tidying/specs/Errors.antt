@@ -1,11 +1,12 @@
 -- Why tidying gives up.
-use Rattle.std.specs.Prelude.{◌≤◌, ⊤}
+use Rattle.std.specs.Prelude.{◌≢◌, ◌≤◌, ⊤}
 use Rattle.px_held.specs.declared.error.HeldError.{HeldError}
 use Rattle.px_held.specs.declared.error.HeldError.TheVariants as held
 use Rattle.px_log.specs.Log.{most_frames}
 use Rattle.px_log.specs.declared.error.LogError.{LogError}
 use Rattle.px_log.specs.declared.error.LogError.TheVariants as log
 use Rattle.px_site.specs.Cause.{Counts, Rose}
+use Rattle.px_site.specs.declared.error.Fault.TheVariants.{Tell}
 use Rattle.px_site.specs.declared.error.SiteError.{SiteError}
 use Rattle.px_site.specs.declared.error.SiteError.TheVariants as site
 use Rattle.px_tidying.specs.declared.error.TidyError.{TidyError}
@@ -38,3 +39,10 @@ IsPassing OutOfMemory = ⊤
 IsPassing (Fault fault) = ⊤
 IsPassing (LogFull frame) = ⊤
 IsPassing (Damaged file place) = ⊥
+
+-- a fault is one of a file's
+abbrev pub IsFileFault : TidyError → Type 0
+IsFileFault OutOfMemory = ⊤
+IsFileFault (Fault fault) = fault ≢ Tell
+IsFileFault (LogFull frame) = ⊤
+IsFileFault (Damaged file place) = ⊤

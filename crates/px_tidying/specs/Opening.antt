@@ -1,5 +1,5 @@
 -- A store while it is opened: its tables, its log, and the life that goes on with each step of the tidying.
-use Rattle.std.specs.Prelude.{◌≡◌, ℕ, ◌+◌, ◌^◌, ◌≤◌, true, List, length}
+use Rattle.std.specs.Prelude.{◌≡◌, ℕ, ◌+◌, ◌^◌, ◌≤◌, true, List, [], length}
 use Rattle.px_cells.specs.Form.{is_short}
 use Rattle.px_held.specs.Serving.{HeldTables, Serves}
 use Rattle.px_history.specs.Fitting.{PlacesFit}
@@ -63,6 +63,7 @@ pub record LastsStill (parts : Parts) (least : ℕ) (m : Machine) (restart : Res
   pub marks : Marks
   pub lasts : Lasts parts least m life restart marks now
   pub told : now.told ≡ before.told
+  pub telling : now.telling ≡ []
 
 -- at each moment of the call a life of the machine's store lasts, where one did that ended in this store
 abbrev pub LastsThrough : (tells : Type 0) → Store → (old new : Opening) → Type 0

@@ -1,6 +1,6 @@
 ghost use Rattle.std.specs.Prelude.{◌≡◌, ◌≤◌, All, IfErr, IfOk, length};
 ghost use Rattle.px_beginning.specs.Numbers.{IsNext};
-ghost use Rattle.px_held.specs.Errors.{HasReadCause};
+ghost use Rattle.px_held.specs.Errors.{HasReadCause, IfDamage};
 ghost use Rattle.px_held.specs.Serving.{HasSameForm, Serves};
 ghost use Rattle.px_history.specs.Fitting.{IsStoredNumber};
 ghost use Rattle.px_history.specs.Store.{Store};
@@ -8,7 +8,7 @@ ghost use Rattle.px_life.specs.Front.{AreStored, done_by};
 ghost use Rattle.px_model.specs.declared.limits.TheConstants.{MOST_TABLES, STORED_NUMBERS_END};
 ghost use Rattle.px_site.specs.Cause.{NoneFell};
 ghost use Rattle.px_tidy.specs.Numbers.{done_of};
-ghost use Rattle.px_tidying.specs.Numbers.{IsPastChanges, IsPastTables};
+ghost use Rattle.px_tidying.specs.Numbers.{IsPastChanges, IsPastTables, IsUnstoredIn};
 
 use px_change::{Change, ChangeKind};
 use px_held::{Held, HeldError};
@@ -32,6 +32,8 @@ pub fn next_number<W: Site>(
     ensures next { (store : Store) → Serves (W.state site.old) held.old store → IfOk result (IsNext restart.now changes.now store.tables store.layouts) }
     ensures stored { (store : Store) → Serves (W.state site.old) held.old store → IfOk result (λ next. AreStored store.tables store.layouts) }
     ensures end { IfOk result (λ next. next ≤ STORED_NUMBERS_END) }
+    ensures unstored { W.tells → (store : Store) → Serves (W.state site.old) held.old store
+        → IfErr result (IfDamage (IsUnstoredIn held.old.short restart.now.tables store.tables)) }
     ensures form { HasSameForm held.old held.new }
     ensures keeps { (store : Store) → Serves (W.state site.old) held.old store → Serves (W.state site.new) held.new store }
     ensures same { W.tells → W.state site.new ≡ W.state site.old }
@@ -67,6 +69,8 @@ fn past_tables<W: Site>(
     requires tables { tables ≤ MOST_TABLES }
     ensures past { (store : Store) → Serves (W.state site.old) held.old store → IfOk result (IsPastTables first store.tables tables) }
     ensures end { IfOk result (λ next. next ≤ STORED_NUMBERS_END) }
+    ensures unstored { W.tells → (store : Store) → Serves (W.state site.old) held.old store
+        → IfErr result (IfDamage (IsUnstoredIn held.old.short tables store.tables)) }
     ensures form { HasSameForm held.old held.new }
     ensures keeps { (store : Store) → Serves (W.state site.old) held.old store → Serves (W.state site.new) held.new store }
     ensures same { W.tells → W.state site.new ≡ W.state site.old }

@@ -1,6 +1,6 @@
-ghost use Rattle.std.specs.Prelude.{◌≡◌, ◌≤◌, ℕ, [], ◌∷◌, IfErr, IfOk, OnOk, length};
+ghost use Rattle.std.specs.Prelude.{◌≡◌, ◌+◌, ◌≤◌, ⊤, ℕ, [], ◌∷◌, IfErr, IfOk, OnOk, length};
 ghost use Rattle.px_chain.specs.Sound.{IsUsedRow};
-ghost use Rattle.px_history.specs.Steps.{Step};
+ghost use Rattle.px_history.specs.Steps.{Step, after_steps};
 ghost use Rattle.px_history.specs.Store.{Store};
 ghost use Rattle.px_life.specs.Life.{Life, end_of};
 ghost use Rattle.px_model.specs.Machine.{Machine, commits};
@@ -8,11 +8,13 @@ ghost use Rattle.px_reached.specs.Reachable.{Marks};
 ghost use Rattle.px_restart.specs.declared.restart.Restart.{Restart};
 ghost use Rattle.px_shown.specs.Parts.{Parts};
 ghost use Rattle.px_site.specs.Cause.{NoneFell};
+ghost use Rattle.px_site.specs.State.{EachMoment, OnFile};
 ghost use Rattle.px_tidy.specs.Numbers.{done_of};
 ghost use Rattle.px_tidy.specs.Steps.{tidying_row, tidying_table, tidying_tables};
 ghost use Rattle.px_working.specs.Follows.{last_store};
+ghost use Rattle.px_xlog.specs.Contents.{the_log};
 ghost use Rattle.px_beginning.specs.Tidied.{tidied};
-ghost use Rattle.px_tidying.specs.Errors.{HasTidyCause, IsPassing};
+ghost use Rattle.px_tidying.specs.Errors.{HasTidyCause, IsFileFault, IsPassing};
 ghost use Rattle.px_tidying.specs.Going.{HasRow, IsDoneBy, MayGo};
 ghost use Rattle.px_tidying.specs.Opening.{HasLife, HasStore, LastsThrough, Made, opening};
 
@@ -38,11 +40,16 @@ pub fn tidy<W: Site>(
         → HasLife parts least m life restart marks (opening (W.state site.old) held.old log.old)
         → let end = end_of (tidied restart life) in
         OnOk result (HasLife parts (commits m) m (tidied restart life) restart (record marks { durable = end }) (opening (W.state site.new) held.new log.new)) }
+    ensures after { (store : Store) → IsDoneBy (done_of done.now) store → HasStore store (opening (W.state site.old) held.old log.old)
+        → OnOk result (HasStore (after_steps store (tidying_tables store tables)) (opening (W.state site.new) held.new log.new)) }
     ensures count { (store : Store) → IsDoneBy (done_of done.now) store → HasStore store (opening (W.state site.old) held.old log.old)
         → IfOk result (λ count. count ≡ length (tidying_tables store tables)) }
+    ensures frames { IfOk result (λ count. log.new.frames ≡ log.old.frames + count) }
     ensures lasts { (store : Store) → IsDoneBy (done_of done.now) store → HasStore store (opening (W.state site.old) held.old log.old)
         → LastsThrough W.tells store (opening (W.state site.old) held.old log.old) (opening (W.state site.new) held.new log.new) }
     ensures sound { W.tells → IfErr result IsPassing }
+    ensures log_alone { W.tells → EachMoment (OnFile the_log (W.state site.old).now (λ file. ⊤)) (W.state site.old) (W.state site.new) }
+    ensures own { IfErr result IsFileFault }
     ensures cause { IfErr result (HasTidyCause (W.counts site.old) (W.counts site.new)) }
     ensures none_fell { NoneFell (W.counts site.old) (W.counts site.new) }
 {
@@ -67,6 +74,8 @@ fn tidy_tables<W: Site>(
     ensures lasts { (store : Store) → IsDoneBy (done_of done.now) store → HasStore store (opening (W.state site.old) held.old log.old)
         → LastsThrough W.tells store (opening (W.state site.old) held.old log.old) (opening (W.state site.new) held.new log.new) }
     ensures sound { W.tells → IfErr result IsPassing }
+    ensures log_alone { W.tells → EachMoment (OnFile the_log (W.state site.old).now (λ file. ⊤)) (W.state site.old) (W.state site.new) }
+    ensures own { IfErr result IsFileFault }
     ensures cause { IfErr result (HasTidyCause (W.counts site.old) (W.counts site.new)) }
     ensures none_fell { NoneFell (W.counts site.old) (W.counts site.new) }
 {
@@ -90,6 +99,8 @@ fn tidy_table<W: Site>(
     ensures lasts { (store : Store) → IsDoneBy (done_of done.now) store → HasStore store (opening (W.state site.old) held.old log.old)
         → LastsThrough W.tells store (opening (W.state site.old) held.old log.old) (opening (W.state site.new) held.new log.new) }
     ensures sound { W.tells → IfErr result IsPassing }
+    ensures log_alone { W.tells → EachMoment (OnFile the_log (W.state site.old).now (λ file. ⊤)) (W.state site.old) (W.state site.new) }
+    ensures own { IfErr result IsFileFault }
     ensures cause { IfErr result (HasTidyCause (W.counts site.old) (W.counts site.new)) }
     ensures none_fell { NoneFell (W.counts site.old) (W.counts site.new) }
 {
@@ -116,6 +127,8 @@ fn tidy_row<W: Site>(
     ensures lasts { (store : Store) → HasRow (done_of done.now) table row store → HasStore store (opening (W.state site.old) held.old log.old)
         → LastsThrough W.tells store (opening (W.state site.old) held.old log.old) (opening (W.state site.new) held.new log.new) }
     ensures sound { W.tells → IfErr result IsPassing }
+    ensures log_alone { W.tells → EachMoment (OnFile the_log (W.state site.old).now (λ file. ⊤)) (W.state site.old) (W.state site.new) }
+    ensures own { IfErr result IsFileFault }
     ensures cause { IfErr result (HasTidyCause (W.counts site.old) (W.counts site.new)) }
     ensures none_fell { NoneFell (W.counts site.old) (W.counts site.new) }
 {
@@ -141,6 +154,8 @@ fn unlink<W: Site>(
     ensures lasts { (store : Store) (place : ℕ) → MayGo store table row place version.now → HasStore store (opening (W.state site.old) held.old log.old)
         → LastsThrough W.tells store (opening (W.state site.old) held.old log.old) (opening (W.state site.new) held.new log.new) }
     ensures sound { W.tells → IfErr result IsPassing }
+    ensures log_alone { W.tells → EachMoment (OnFile the_log (W.state site.old).now (λ file. ⊤)) (W.state site.old) (W.state site.new) }
+    ensures own { IfErr result IsFileFault }
     ensures cause { IfErr result (HasTidyCause (W.counts site.old) (W.counts site.new)) }
     ensures none_fell { NoneFell (W.counts site.old) (W.counts site.new) }
 {

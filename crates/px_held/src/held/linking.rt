@@ -32,7 +32,7 @@ impl Held {
             → IfOk result (λ found. IfSome found (IsNextPlace (store.tables table) key.now)) }
         ensures place { IfOk result (λ found. IfSome found (HasPlaceFor self.new table key.now)) }
         ensures form { HasSameForm self.old self.new }
-        ensures keeps { W.tells → (store : Store) → Serves (W.state site.old) self.old store → Serves (W.state site.new) self.new store }
+        ensures keeps { (store : Store) → Serves (W.state site.old) self.old store → Serves (W.state site.new) self.new store }
         ensures same { W.tells → W.state site.new ≡ W.state site.old }
         ensures sound { W.tells → (store : Store) → Serves (W.state site.old) self.old store → HasTable self.old table → IfErr result IsPassing }
         ensures fault { IfErr result (HasReadCause (W.counts site.old) (W.counts site.new)) }

@@ -30,7 +30,7 @@ impl Held {
         ensures row { W.tells → (store : Store) → Serves (W.state site.old) self.old store
             → IfOk result (λ found. MatchOption found (HasNoRow (store.tables table) key.now) (λ row. IsRowOf (store.tables table) key.now row)) }
         ensures form { HasSameForm self.old self.new }
-        ensures keeps { W.tells → (store : Store) → Serves (W.state site.old) self.old store → Serves (W.state site.new) self.new store }
+        ensures keeps { (store : Store) → Serves (W.state site.old) self.old store → Serves (W.state site.new) self.new store }
         ensures same { W.tells → W.state site.new ≡ W.state site.old }
         ensures sound { W.tells → (store : Store) → Serves (W.state site.old) self.old store → IfErr result IsPassing }
         ensures fault { IfErr result (HasReadCause (W.counts site.old) (W.counts site.new)) }
@@ -53,7 +53,7 @@ impl Held {
             → IfOk result (λ next. MatchOption next (HasNoKeyPast (store.tables table) (option_map (λ key. key.now) after.entry))
             (λ found. IsNextKey (store.tables table) (option_map (λ key. key.now) after.entry) found.0 found.1)) }
         ensures form { HasSameForm self.old self.new }
-        ensures keeps { W.tells → (store : Store) → Serves (W.state site.old) self.old store → Serves (W.state site.new) self.new store }
+        ensures keeps { (store : Store) → Serves (W.state site.old) self.old store → Serves (W.state site.new) self.new store }
         ensures same { W.tells → W.state site.new ≡ W.state site.old }
         ensures sound { W.tells → (store : Store) → Serves (W.state site.old) self.old store → IfErr result IsPassing }
         ensures fault { IfErr result (HasReadCause (W.counts site.old) (W.counts site.new)) }
@@ -80,7 +80,7 @@ impl Held {
         ensures seen { W.tells → (store : Store) → Serves (W.state site.old) self.old store → IsUsedRow (store.tables table) row
             → IfOk result (λ slot. slot ≡ slot_seen reader.now.xacts.now store reader.now.own reader.now.snapshot table row) }
         ensures form { HasSameForm self.old self.new }
-        ensures keeps { W.tells → (store : Store) → Serves (W.state site.old) self.old store → Serves (W.state site.new) self.new store }
+        ensures keeps { (store : Store) → Serves (W.state site.old) self.old store → Serves (W.state site.new) self.new store }
         ensures same { W.tells → W.state site.new ≡ W.state site.old }
         ensures sound { W.tells → (store : Store) → Serves (W.state site.old) self.old store → IsUsedRow (store.tables table) row → IfErr result IsPassing }
         ensures fault { IfErr result (HasReadCause (W.counts site.old) (W.counts site.new)) }
@@ -101,7 +101,7 @@ impl Held {
         ensures newest { W.tells → (store : Store) → Serves (W.state site.old) self.old store → IsUsedRow (store.tables table) row
             → IfOk result (λ view. view ≡ newest_committed xacts.now store table row) }
         ensures form { HasSameForm self.old self.new }
-        ensures keeps { W.tells → (store : Store) → Serves (W.state site.old) self.old store → Serves (W.state site.new) self.new store }
+        ensures keeps { (store : Store) → Serves (W.state site.old) self.old store → Serves (W.state site.new) self.new store }
         ensures same { W.tells → W.state site.new ≡ W.state site.old }
         ensures sound { W.tells → (store : Store) → Serves (W.state site.old) self.old store → IsUsedRow (store.tables table) row → IfErr result IsPassing }
         ensures fault { IfErr result (HasReadCause (W.counts site.old) (W.counts site.new)) }
@@ -116,7 +116,7 @@ impl Held {
         ensures slot { W.tells → (store : Store) → Serves (W.state site.old) self.old store → IsSlot (store.tables table) slot
             → IfOk result (λ copy. copy ≡ (store.tables table).slot slot) }
         ensures form { HasSameForm self.old self.new }
-        ensures keeps { W.tells → (store : Store) → Serves (W.state site.old) self.old store → Serves (W.state site.new) self.new store }
+        ensures keeps { (store : Store) → Serves (W.state site.old) self.old store → Serves (W.state site.new) self.new store }
         ensures same { W.tells → W.state site.new ≡ W.state site.old }
         ensures sound { W.tells → (store : Store) → Serves (W.state site.old) self.old store → IsSlot (store.tables table) slot → IfErr result IsPassing }
         ensures fault { IfErr result (HasReadCause (W.counts site.old) (W.counts site.new)) }

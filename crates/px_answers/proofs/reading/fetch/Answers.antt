@@ -11,18 +11,18 @@ use Rattle.px_answers.proofs.reading.fetch.Goals as goal
 pub returns-in_default : goal.returns-in_default
 returns-in_default c = λ m of keeps.
     let caller = c.args.caller.now in
-    fetch_unopened m caller.session c.args.ticket (none_open m caller.xacts.now caller.session c.opened.result of.mirrors c.opened.ensures c.in_default.is)
+    fetch_unopened m caller.session c.args.ticket (none_open m caller.xacts.now caller.session c.opened.result of.mirrors c.opened.ensures.is c.in_default.is)
 
 pub returns-then-ticket-eq0 : goal.returns-then-ticket-eq0
 returns-then-ticket-eq0 c = λ m of keeps.
     let caller = c.args.caller.now in
-    let opened = some_open m caller.xacts.now caller.session c.opened.result c.in-Some._opened of.mirrors c.opened.ensures c.in-Some.is in
+    let opened = some_open m caller.xacts.now caller.session c.opened.result c.in-Some._opened of.mirrors c.opened.ensures.is c.in-Some.is in
     fetch_zero m caller.session c.args.ticket opened.0 opened.1.is_open (eq-eqb c.args.ticket 0 c.if-ticket-eq0.true)
 
 pub returns-in_ok-copy-in-Some-get : goal.returns-in_ok-copy-in-Some-get
 returns-in_ok-copy-in-Some-get c = λ m of keeps.
     let caller = c.args.caller.now in
-    let opened = some_open m caller.xacts.now caller.session c.opened.result c.in-Some._opened of.mirrors c.opened.ensures c.in-Some.is in
+    let opened = some_open m caller.xacts.now caller.session c.opened.result c.in-Some._opened of.mirrors c.opened.ensures.is c.in-Some.is in
     let lookup = c.in-Some-get.ensures.lookup in
     let kept = c.of.result.now in
     let row = c.in-Some-get.row.now in
@@ -34,7 +34,7 @@ returns-in_ok-copy-in-Some-get c = λ m of keeps.
 pub returns-in-None : goal.returns-in-None
 returns-in-None c = λ m of keeps.
     let caller = c.args.caller.now in
-    let opened = some_open m caller.xacts.now caller.session c.opened.result c.in-Some._opened of.mirrors c.opened.ensures c.in-Some.is in
+    let opened = some_open m caller.xacts.now caller.session c.opened.result c.in-Some._opened of.mirrors c.opened.ensures.is c.in-Some.is in
     let kept = c.of.result.now in
     fetch_row m caller.session c.args.ticket opened.0 kept None opened.1.is_open (ne_eqb c.args.ticket 0 c.if-ticket-eq0.false)
     (c.of.ensures.is ∙ keeps caller.session c.of.ensures.bound ∙ ap kept_in opened.1.is_open)

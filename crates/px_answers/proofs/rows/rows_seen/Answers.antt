@@ -25,7 +25,7 @@ loop-key-init g c = record {
 
 pub returns-in_default-clause-rows : goal.returns-in_default-clause-rows
 returns-in_default-clause-rows g c = λ tells holders m store session xact sees is.
-    let now = c.loop-key.invariant.stays.keeps tells store sees.serves in
+    let now = c.loop-key.invariant.stays.keeps store sees.serves in
     let next = subst (λ (last : Option (List ℕ)). IsNext store c.args.table last c.in_ok-key.field-0) c.bytes_of.ensures (c.in_ok-key.ensures.next tells store now) in
     let none : HasNoKeyPast (store.tables c.args.table) c.loop-key.last =
     subst (λ (o : Option (List ℕ × ℕ)). IsNext store c.args.table c.loop-key.last o) c.in_default.is next in
@@ -41,7 +41,7 @@ returns-in_err-seen-clause-reads g c =
     (if_err (HasReadCause (g.W.Site.counts c.key_past.new.site) (g.W.Site.counts c.row_in.new.site)) c.from_residual-in_err-seen.result c.in_err-seen.field-0.0
     c.from_residual-in_err-seen.ensures.1 c.in_err-seen.ensures.fault)
     (λ tells short store serves still are.
-    let now = c.loop-key.invariant.stays.keeps tells store serves in
+    let now = c.loop-key.invariant.stays.keeps store serves in
     let next = subst (λ (last : Option (List ℕ)). IsNext store c.args.table last c.in_ok-key.field-0) c.bytes_of.ensures (c.in_ok-key.ensures.next tells store now) in
     let found : IsNextKey (store.tables c.args.table) c.loop-key.last c.in-Some.key c.in-Some.row =
     subst (λ (o : Option (List ℕ × ℕ)). IsNext store c.args.table c.loop-key.last o) c.in-Some.is next in
@@ -56,7 +56,7 @@ loop-key-preserved g c =
     record {
       stays = then_stays before c.row_in.ensures.stays;
       rows = λ tells holders m store session xact sees is.
-          let now = c.loop-key.invariant.stays.keeps tells store sees.serves in
+          let now = c.loop-key.invariant.stays.keeps store sees.serves in
           let next = subst (λ (last : Option (List ℕ)). IsNext store c.args.table last c.in_ok-key.field-0) c.bytes_of.ensures (c.in_ok-key.ensures.next tells store now) in
           let found : IsNextKey (store.tables c.args.table) c.loop-key.last c.in-Some.key c.in-Some.row =
           subst (λ (o : Option (List ℕ × ℕ)). IsNext store c.args.table c.loop-key.last o) c.in-Some.is next in

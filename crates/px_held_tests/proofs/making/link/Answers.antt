@@ -8,5 +8,5 @@ returns-clause-serves c = λ site.
     let old = c.requires.serves site in
     let store = old.0 in (
       after_step store (step_of c.link-prepared.result),
-      anywhere _ site _ _ (c.lay.ensures.step _ store (c.place_for.ensures.keeps tt store (anywhere site _ _ store old.1))),
+      anywhere _ site _ _ (c.lay.ensures.step _ store (c.place_for.ensures.keeps store (anywhere site _ _ store old.1))),
     )

@@ -1,4 +1,5 @@
 use Rattle.px_laid.specs.Places.{places}
+use Rattle.px_opened.proofs.Counted.{counted_read}
 use Rattle.px_opened.proofs.Reading.{flawed, opened, surveyed}
 use Rattle.px_opened.proofs.opening.open_table.Goals as goal
 
@@ -18,3 +19,8 @@ returns-in_ok-of_cells-in-None-clause-ok c =
     c.in_ok-of_cells-in-None.ensures.cells c.in_ok-of_cells-in-None.ensures.layout
     (surveyed c.args.short c.args.number (places c.args.laid.now) c.in_ok-cells.cells c.as_slice.result.now c.as_slice-2.result.now c.in_ok-flaw.flaw
     c.in_ok-cells.ensures.ok c.as_slice.ensures.value c.as_slice-2.ensures.value c.in-None.is c.in_ok-flaw.ensures.sound)
+
+pub returns-in_ok-of_cells-in-None-clause-counted : goal.returns-in_ok-of_cells-in-None-clause-counted
+returns-in_ok-of_cells-in-None-clause-counted c =
+    counted_read c.args.short c.args.number (places c.args.laid.now) c.in_ok-cells.cells c.in_ok-of_cells-in-None.field-0.cells c.in_ok-cells.ensures.ok
+    c.in_ok-of_cells-in-None.ensures.cells

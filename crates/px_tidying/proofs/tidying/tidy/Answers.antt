@@ -1,10 +1,12 @@
 use Rattle.std.proofs.Common.{◌≡◌, ℕ, refl, subst, ◌∙◌}
+use Rattle.px_history.specs.Steps.{after_steps}
 use Rattle.px_tidy.specs.Steps.{tidying_tables}
 use Rattle.px_working.specs.Follows.{last_store}
 use Rattle.px_beginning.specs.Tidied.{tidied, with_steps}
 use Rattle.px_tidying.specs.Opening.{HasLife, opening}
 use Rattle.px_tidying.proofs.Composing.{both_last}
-use Rattle.px_tidying.proofs.Flushing.{flush_lasts, flush_life}
+use Rattle.px_tidying.proofs.Flushing.{flush_lasts, flush_life, flush_store}
+use Rattle.px_tidying.proofs.Quiet.{alone_then}
 use Rattle.px_tidying.proofs.tidying.tidy.Goals as goal
 
 pub returns-in_err-flush-clause-lasts : goal.returns-in_err-flush-clause-lasts
@@ -39,3 +41,19 @@ returns-clause-tidied g c = λ tell parts least m life restart marks is has.
     ((c.in_ok-tidy_tables.ensures.made store is has.store).life tell parts least m life restart marks refl has) in
     flush_life tells parts least m (tidied restart life) restart marks now new tell had refl c.in_ok-flush.ensures.marks
     (c.in_ok-flush.ensures.logged tell (tidied restart life).changes had.logged) c.flush.ensures.moments
+
+pub returns-clause-after : goal.returns-clause-after
+returns-clause-after g c = λ store is has.
+    let now = opening (g.W.Site.state c.tidy_tables.new.site) c.tidy_tables.new.held c.tidy_tables.new.log in
+    let new = opening (g.W.Site.state c.flush.new.site) c.tidy_tables.new.held c.flush.new.self in
+    let steps = tidying_tables store c.args.tables in
+    let made = c.in_ok-tidy_tables.ensures.made store is has in
+    flush_store (after_steps store steps) now new made.after refl c.in_ok-flush.ensures.marks
+
+pub returns-in_err-flush-clause-log_alone : goal.returns-in_err-flush-clause-log_alone
+returns-in_err-flush-clause-log_alone g c = λ t.
+    alone_then (g.W.Site.state c.args.site.now) (g.W.Site.state c.tidy_tables.new.site) (g.W.Site.state c.flush.new.site) (c.tidy_tables.ensures.log_alone t) (c.flush.ensures.log_alone t)
+
+pub returns-clause-log_alone : goal.returns-clause-log_alone
+returns-clause-log_alone g c = λ t.
+    alone_then (g.W.Site.state c.args.site.now) (g.W.Site.state c.tidy_tables.new.site) (g.W.Site.state c.flush.new.site) (c.tidy_tables.ensures.log_alone t) (c.flush.ensures.log_alone t)

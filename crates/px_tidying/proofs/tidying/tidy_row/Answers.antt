@@ -2,12 +2,14 @@ use Rattle.std.proofs.Common.{get_or, take, ◌∙◌}
 use Rattle.px_history.specs.Steps.{after_steps}
 use Rattle.px_history.specs.Store.{versions_of}
 use Rattle.px_site.proofs.Causes.{then_none_fell}
+use Rattle.px_site.proofs.Moments.{same_moment}
 use Rattle.px_tidy.specs.Kept.{tidied_away}
 use Rattle.px_tidy.specs.Numbers.{done_of}
 use Rattle.px_tidy.specs.Steps.{tidying_row}
 use Rattle.px_tidying.specs.Opening.{opening}
 use Rattle.px_tidying.proofs.Composing.{OnlyReads, both_last, none_made, reads_last}
 use Rattle.px_tidying.proofs.Loops.{all_made, next_goes, one_more}
+use Rattle.px_tidying.proofs.Quiet.{alone_then}
 use Rattle.px_tidying.proofs.Readying.{held_reads}
 use Rattle.px_tidying.proofs.tidying.tidy_row.Goals as goal
 
@@ -21,6 +23,7 @@ loop-version-init g c =
     record {
       made = λ store is has. none_made tells store first second reads has;
       lasts = λ store is has. reads_last tells store first second c.versions_to_tidy.ensures.same;
+      quiet = λ t. same_moment (c.versions_to_tidy.ensures.same t);
       none_fell = c.versions_to_tidy.ensures.none_fell;
     }
 
@@ -80,6 +83,7 @@ loop-version-preserved g c =
           both_last tells store (take index (tidying_row store table row)) old now new made (c.loop-version.invariant.lasts store is has)
           (c.unlink.ensures.lasts (after_steps store (take index (tidying_row store table row))) (get_or (tidied_away store.done (versions_of store table row)) index 0)
           (next_goes done table row store old versions is has are index (record { slot = 0; newer = 0 }) within) made.after);
+      quiet = λ t. alone_then old.site now.site new.site (c.loop-version.invariant.quiet t) (c.unlink.ensures.log_alone t);
       none_fell = then_none_fell c.loop-version.invariant.none_fell c.unlink.ensures.none_fell;
     }
 
@@ -90,3 +94,7 @@ returns-clause-made g c = λ store is has.
     let are = c.deref-version-items.ensures.value ∙ c.in_ok-versions.ensures.versions store has.serves is.1 in
     all_made (done_of c.args.done.now) c.args.table c.args.row store old c.deref-version-items.result.now is has are g.W.Site.tells c.loop-version.version-index now
     c.loop-version-test.false (c.loop-version.invariant.made store is has)
+
+pub returns-in_err-unlink-clause-log_alone : goal.returns-in_err-unlink-clause-log_alone
+returns-in_err-unlink-clause-log_alone g c = λ t.
+    alone_then (g.W.Site.state c.args.site.now) (g.W.Site.state c.loop-version.site) (g.W.Site.state c.unlink.new.site) (c.loop-version.invariant.quiet t) (c.unlink.ensures.log_alone t)

@@ -8,6 +8,7 @@ use Rattle.px_tidy.specs.Rows.{HasNoRowPast, IsNextRow}
 use Rattle.px_tidy.specs.Steps.{tidying_row, tidying_rows}
 use Rattle.px_tidying.specs.Opening.{Made, opening}
 use Rattle.px_tidying.proofs.Composing.{OnlyReads, both_last, both_made, made_still, reads_then}
+use Rattle.px_tidying.proofs.Quiet.{alone_still, alone_then}
 use Rattle.px_tidying.proofs.Readying.{held_reads}
 use Rattle.px_tidying.proofs.Rows.{next_has_row, next_row_steps, none_before}
 use Rattle.px_tidying.proofs.tidying.tidy_table.Goals as goal
@@ -86,6 +87,7 @@ loop-row-preserved g c =
           let row = next_has_row old.held.short store table last (served old.site old.held store has.serves).sound (done_of c.args.done.now) c.in-Some.row is next in
           both_last tells store (tidying_rows store table last) old now new made (c.loop-row.invariant.lasts store is has)
           (reads_then tells middle now second new reads made.after (c.tidy_row.ensures.lasts middle row (reads.store middle made.after)));
+      quiet = λ t. alone_then old.site second.site new.site (alone_still old.site now.site second.site (c.loop-row.invariant.quiet t) (c.next_row.ensures.same t)) (c.tidy_row.ensures.log_alone t);
       none_fell = then_none_fell c.loop-row.invariant.none_fell (then_none_fell c.next_row.ensures.none_fell c.tidy_row.ensures.none_fell);
     }
 
@@ -107,3 +109,18 @@ returns-clause-made g c = λ store is has.
     (c.in_ok-row.ensures.next middle made.after.serves) in
     subst (λ (l : List Step). Made tells store l old second) (none_before old.held.short store table last (served old.site old.held store has.serves).sound none)
     (made_still tells store (tidying_rows store table last) old now second made reads)
+
+pub returns-in_err-tidy_row-clause-log_alone : goal.returns-in_err-tidy_row-clause-log_alone
+returns-in_err-tidy_row-clause-log_alone g c = λ t.
+    let old = g.W.Site.state c.args.site.now in
+    let second = g.W.Site.state c.next_row.new.site in
+    alone_then old second (g.W.Site.state c.tidy_row.new.site)
+    (alone_still old (g.W.Site.state c.loop-row.site) second (c.loop-row.invariant.quiet t) (c.next_row.ensures.same t)) (c.tidy_row.ensures.log_alone t)
+
+pub returns-in_err-row-clause-log_alone : goal.returns-in_err-row-clause-log_alone
+returns-in_err-row-clause-log_alone g c = λ t.
+    alone_still (g.W.Site.state c.args.site.now) (g.W.Site.state c.loop-row.site) (g.W.Site.state c.next_row.new.site) (c.loop-row.invariant.quiet t) (c.next_row.ensures.same t)
+
+pub returns-clause-log_alone : goal.returns-clause-log_alone
+returns-clause-log_alone g c = λ t.
+    alone_still (g.W.Site.state c.args.site.now) (g.W.Site.state c.loop-row.site) (g.W.Site.state c.next_row.new.site) (c.loop-row.invariant.quiet t) (c.next_row.ensures.same t)

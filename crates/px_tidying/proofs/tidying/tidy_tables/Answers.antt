@@ -6,6 +6,7 @@ use Rattle.px_tidy.specs.Numbers.{done_of}
 use Rattle.px_tidy.specs.Steps.{tidying_table, tidying_tables}
 use Rattle.px_tidying.specs.Opening.{Made, opening}
 use Rattle.px_tidying.proofs.Composing.{both_last, both_made}
+use Rattle.px_tidying.proofs.Quiet.{alone_then}
 use Rattle.px_tidying.proofs.Rows.{next_is_done, next_table_steps}
 use Rattle.px_tidying.proofs.tidying.tidy_tables.Goals as goal
 
@@ -52,6 +53,7 @@ loop-before-preserved g c =
           let done = next_is_done old.held.short store last (served old.site old.held store has.serves).sound (done_of c.args.done.now) is in
           both_last tells store (tidying_tables store last) old now new made (c.loop-before.invariant.lasts store is has)
           (c.tidy_table.ensures.lasts (after_steps store (tidying_tables store last)) done made.after);
+      quiet = λ t. alone_then old.site now.site new.site (c.loop-before.invariant.quiet t) (c.tidy_table.ensures.log_alone t);
       none_fell = then_none_fell c.loop-before.invariant.none_fell c.tidy_table.ensures.none_fell;
     }
 
@@ -61,3 +63,7 @@ returns-clause-made g c = λ store is has.
     let now = opening (g.W.Site.state c.loop-before.site) c.loop-before.held c.loop-before.log in
     let end : c.loop-before.before ≡ c.args.tables = omega (arith, c.loop-before.auto.before-end, c.loop-before-test.false) in
     subst (λ (n : ℕ). Made g.W.Site.tells store (tidying_tables store n) old now) end (c.loop-before.invariant.made store is has)
+
+pub returns-in_err-tidy_table-clause-log_alone : goal.returns-in_err-tidy_table-clause-log_alone
+returns-in_err-tidy_table-clause-log_alone g c = λ t.
+    alone_then (g.W.Site.state c.args.site.now) (g.W.Site.state c.loop-before.site) (g.W.Site.state c.tidy_table.new.site) (c.loop-before.invariant.quiet t) (c.tidy_table.ensures.log_alone t)

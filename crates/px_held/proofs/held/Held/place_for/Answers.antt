@@ -19,7 +19,7 @@ invariant_of-self g c =
     (c.self.invariant.0, still_numbered held number c.place_for.new.self c.self.invariant.1 there its)
 
 pub returns-in_err-place-clause-keeps : goal.returns-in_err-place-clause-keeps
-returns-in_err-place-clause-keeps g c = λ tells store serves.
+returns-in_err-place-clause-keeps g c = λ store serves.
     let held : HeldTables = record { short = c.self.inside.short; tables = c.self.inside.tables.items } in
     let number = c.args.table in
     let site = g.W.Site.state c.args.site.now in
@@ -38,7 +38,7 @@ invariant_of-self-2 g c =
     (c.self.invariant.0, still_numbered held number c.place_for.new.self c.self.invariant.1 there its)
 
 pub returns-clause-keeps : goal.returns-clause-keeps
-returns-clause-keeps g c = λ tells store serves.
+returns-clause-keeps g c = λ store serves.
     let held : HeldTables = record { short = c.self.inside.short; tables = c.self.inside.tables.items } in
     let number = c.args.table in
     let site = g.W.Site.state c.args.site.now in

@@ -3,6 +3,7 @@ use Rattle.px_change.specs.Grammar.{is_change}
 use Rattle.px_log.specs.Window.{longest_frame}
 use Rattle.px_log.specs.Log.{Log, IsLogOf, with_frame}
 use Rattle.px_log.proofs.FramesOfChanges.{may_be_written}
+use Rattle.px_log.proofs.Alone.{change_alone}
 use Rattle.px_log.proofs.Appends.{may_append, short_frame, append_moments, append_logged}
 use Rattle.px_log.proofs.OtherFiles.{change_leaves_others}
 use Rattle.px_log.proofs.xlog.Xlog.append.Goals as goal
@@ -57,3 +58,9 @@ returns-in_err-write_at-clause-others g c t = change_leaves_others c.log_file.en
 
 pub returns-clause-others : goal.returns-clause-others
 returns-clause-others g c t = change_leaves_others c.log_file.ensures (c.write_at.ensures.moves t)
+
+pub returns-in_err-write_at-clause-log_alone : goal.returns-in_err-write_at-clause-log_alone
+returns-in_err-write_at-clause-log_alone g c t = change_alone c.log_file.ensures (c.write_at.ensures.moves t)
+
+pub returns-clause-log_alone : goal.returns-clause-log_alone
+returns-clause-log_alone g c t = change_alone c.log_file.ensures (c.write_at.ensures.moves t)

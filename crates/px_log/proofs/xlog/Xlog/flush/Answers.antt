@@ -1,5 +1,6 @@
 use Rattle.std.proofs.Common.{◌^◌, ◌≤◌, ap, arith}
 use Rattle.px_log.specs.Log.{Log}
+use Rattle.px_log.proofs.Alone.{sync_alone}
 use Rattle.px_log.proofs.Appends.{flush_moments}
 use Rattle.px_log.proofs.OtherFiles.{sync_leaves_contents}
 use Rattle.px_log.proofs.xlog.Xlog.flush.Goals as goal
@@ -15,3 +16,9 @@ returns-in_err-sync-clause-others g c t = λ name other. sync_leaves_contents (c
 
 pub returns-clause-others : goal.returns-clause-others
 returns-clause-others g c t = λ name other. sync_leaves_contents (c.sync.ensures.moves t) name
+
+pub returns-in_err-sync-clause-log_alone : goal.returns-in_err-sync-clause-log_alone
+returns-in_err-sync-clause-log_alone g c t = sync_alone c.log_file-file.ensures (c.sync.ensures.moves t)
+
+pub returns-clause-log_alone : goal.returns-clause-log_alone
+returns-clause-log_alone g c t = sync_alone c.log_file-file.ensures (c.sync.ensures.moves t)

@@ -1,0 +1,12 @@
+pub mod Appended
+pub mod Beginning
+pub mod Behind
+pub mod Closing
+pub mod Crashing
+pub mod Ending
+pub mod Finding
+pub mod Leaving
+pub mod Reading
+pub mod Still
+pub mod Telling
+pub mod Writing

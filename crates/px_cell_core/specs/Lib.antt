@@ -1,0 +1,4 @@
+pub mod Core
+pub mod Errors
+pub mod Serving
+pub mod Working

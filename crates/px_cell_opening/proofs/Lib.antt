@@ -1,0 +1,9 @@
+pub mod Numbers
+pub mod One
+pub mod Tables
+pub mod Segments
+pub mod Standing
+pub mod Beginning
+pub mod Refusals
+pub mod Sound
+pub mod Settling

@@ -1,0 +1,4 @@
+pub mod Errors
+pub mod Found
+pub mod Opened
+pub mod Settled
