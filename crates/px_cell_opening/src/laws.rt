@@ -81,7 +81,8 @@ pub(crate) fn what_was_found_rests()
     what_opens_is_one();
 }
 
-/// The tables that were found are those of a store, which may be tidied: in it are done just those of whom the restart or a Commit tells it.
+/// The tables that were found are those of a store, which may be tidied: in it are done just those of whom the restart or a Commit
+/// tells it.
 pub(crate) fn tables_that_open_may_be_tidied()
     ensures store { (restart : Restart) (found : Found) (site : State) → CanRestart restart → (has : HasFound restart found)
         → HasStore (store_of restart found.changes found.next has.holds.found has.holds.layouts) (opening site found.held found.log) }

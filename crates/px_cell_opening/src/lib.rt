@@ -4,7 +4,8 @@
 //! - `opening`: `open_cells`, its two halves, and what was found between them.
 //! - `counts`: how many commits were found, and how many frames were laid again.
 //! - `error`: `CellsError`, why it gives up.
-//! - `laws`: what a crash leaves of a store that lasts may be opened; a settled site's files stand, also while its log is cut, and have no damage; and what was found there begins a life.
+//! - `laws`: what a crash leaves of a store that lasts may be opened; a settled site's files stand, also while its log is cut, and have
+//!   no damage; what was found there begins a life, and what was opened is settled again.
 //!
 //! `specs/Settled` says which sites a run may leave, `specs/Opened` what is opened of one, and `specs/Errors` what an error says. What
 //! the opening has found when it begins to tidy is in `specs/Found`.
