@@ -20,7 +20,7 @@ pub returns-in_default-clause-row : goal.returns-in_default-clause-row
 returns-in_default-clause-row g c = λ tells holders m store sees.
     let after = option_map (λ key. key.now) c.args.after in
     let last = last_passed after c.loop-key.passed in
-    let now = c.loop-key.invariant.stays.keeps tells store sees.serves in
+    let now = c.loop-key.invariant.stays.keeps store sees.serves in
     let next = subst (λ (k : Option (List ℕ)). IsNext store c.args.table k c.in_ok-key.field-0) c.last_passed.ensures (c.in_ok-key.ensures.next tells store now) in
     let none : HasNoKeyPast (store.tables c.args.table) last = subst (λ (o : Option (List ℕ × ℕ)). IsNext store c.args.table last o) c.in_default.is next in
     none_left (rows_now m) c.args.table after last (c.loop-key.invariant.come tells holders m store sees) (none_behind c.args.table last sees none)
@@ -35,7 +35,7 @@ returns-in_err-row-clause-reads g c =
     (if_err (HasReadCause (g.W.Site.counts c.key_past.new.site) (g.W.Site.counts c.row_in.new.site)) c.from_residual-in_err-row.result c.in_err-row.field-0.0
     c.from_residual-in_err-row.ensures.1 c.in_err-row.ensures.fault)
     (λ tells short store serves still are.
-    let now = c.loop-key.invariant.stays.keeps tells store serves in
+    let now = c.loop-key.invariant.stays.keeps store serves in
     let next = subst (λ (k : Option (List ℕ)). IsNext store c.args.table k c.in_ok-key.field-0) c.last_passed.ensures (c.in_ok-key.ensures.next tells store now) in
     let found : IsNextKey (store.tables c.args.table) last c.in-Some.key c.in-Some.row = subst (λ (o : Option (List ℕ × ℕ)). IsNext store c.args.table last o) c.in-Some.is next in
     if_err IsPassing c.from_residual-in_err-row.result c.in_err-row.field-0.0 c.from_residual-in_err-row.ensures.1
@@ -48,7 +48,7 @@ returns-in-Some-2-clause-row g c = λ tells holders m store sees.
     let past : Stays g.W.Site.tells g.W.Site.state g.W.Site.counts c.loop-key.site c.key_past.new.site c.loop-key.held c.key_past.new.self =
     record { form = c.key_past.ensures.form; keeps = c.key_past.ensures.keeps; same = c.key_past.ensures.same; none_fell = c.key_past.ensures.none_fell } in
     let before = then_stays c.loop-key.invariant.stays past in
-    let now = c.loop-key.invariant.stays.keeps tells store sees.serves in
+    let now = c.loop-key.invariant.stays.keeps store sees.serves in
     let next = subst (λ (k : Option (List ℕ)). IsNext store c.args.table k c.in_ok-key.field-0) c.last_passed.ensures (c.in_ok-key.ensures.next tells store now) in
     let found : IsNextKey (store.tables c.args.table) last c.in-Some.key c.in-Some.row = subst (λ (o : Option (List ℕ × ℕ)). IsNext store c.args.table last o) c.in-Some.is next in
     let seen : row_at (c.args.table, c.in-Some.key) (rows_now m) ≡ Some c.in-Some-2.row =
@@ -67,7 +67,7 @@ loop-key-preserved g c =
     record {
       stays = then_stays before c.row_in.ensures.stays;
       come = λ tells holders m store sees.
-          let now = c.loop-key.invariant.stays.keeps tells store sees.serves in
+          let now = c.loop-key.invariant.stays.keeps store sees.serves in
           let next = subst (λ (k : Option (List ℕ)). IsNext store c.args.table k c.in_ok-key.field-0) c.last_passed.ensures (c.in_ok-key.ensures.next tells store now) in
           let found : IsNextKey (store.tables c.args.table) last c.in-Some.key c.in-Some.row = subst (λ (o : Option (List ℕ × ℕ)). IsNext store c.args.table last o) c.in-Some.is next in
           let seen : row_at (c.args.table, c.in-Some.key) (rows_now m) ≡ None =

@@ -16,7 +16,7 @@ returns-in_err-slot-2-clause-sound g c = λ tells short store serves are used.
     let at = seen_slot short reader.xacts.now store reader.own reader.snapshot c.args.table c.args.row c.in-Some.slot are used
     (sym (c.in_ok-slot.ensures.seen tells store serves used) ∙ c.in-Some.is) in
     if_err IsPassing c.from_residual-in_err-slot-2.result c.in_err-slot-2.field-0.0 c.from_residual-in_err-slot-2.ensures.1
-    (c.in_err-slot-2.ensures.sound tells store (c.seen.ensures.keeps tells store serves) at)
+    (c.in_err-slot-2.ensures.sound tells store (c.seen.ensures.keeps store serves) at)
 
 pub returns-clause-row : goal.returns-clause-row
 returns-clause-row g c = λ tells holders m store sees used.
@@ -26,4 +26,4 @@ returns-clause-row g c = λ tells holders m store sees used.
     let at = seen_slot m.short reader.xacts.now store reader.own reader.snapshot c.args.table c.args.row c.in-Some.slot sees.holds.sound used (sym seen ∙ c.in-Some.is) in
     c.row_of.ensures
     ∙ some_seen reader c.args.table c.args.row c.in_ok-slot.field-0 c.in-Some.slot c.in_ok-slot-2.slot sees is used seen c.in-Some.is
-    (c.in_ok-slot-2.ensures.slot tells store (c.seen.ensures.keeps tells store sees.serves) at)
+    (c.in_ok-slot-2.ensures.slot tells store (c.seen.ensures.keeps store sees.serves) at)
