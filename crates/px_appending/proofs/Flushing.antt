@@ -35,8 +35,8 @@ meanwhile parts least m life restart marks old has now on = record {
     lasts = synced_meanwhile parts least marks.durable m life restart marks old.site.now now has.lasts on.others (omega arith) has.lasts.reachable.end
         (subst (λ (n : ℕ). LeavesFronts n life.changes (now.files the_log)) has.durable on.this.each);
     told = on.told;
+    telling = on.telling;
   };
-  telling = on.telling;
   others = on.others;
 }
 

@@ -120,8 +120,8 @@ module _ (parts : Parts) (least : ℕ) (m later : Machine) (life : Life) (restar
           (subst (λ (n : ℕ). LeavesFronts n (life.changes ++ change ∷ []) (now.files the_log)) has.durable
           (subst (λ (c : Change). LeavesFronts old.log.durable (life.changes ++ c ∷ []) (now.files the_log)) (same_change given is) on.this.each));
       told = on.told;
+      telling = on.telling;
     };
-    telling = on.telling;
     others = on.others;
   }
 

@@ -28,7 +28,6 @@ GoesOn tells step old new =
 -- A moment within a call: a life of the machine's store lasts, nothing is told, and every file but the log is as it was.
 pub record LastsWithin (parts : Parts) (least : ℕ) (m : Machine) (restart : Restart) (before now : Moment) : Type 0 where
   pub still : LastsStill parts least m restart before now
-  pub telling : now.telling ≡ []
   pub others : LeavesOthers before now
 
 -- and at each moment of the call a life of the later machine's store lasts

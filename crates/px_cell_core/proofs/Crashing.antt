@@ -55,7 +55,7 @@ lasts_stands least m restart before now within = record {
       (reachable_stands (steps_held one_layout) alike_shown more_opens files_lie IsPlainImage (λ m image plain. plain.each))
       no_parts least m within.still.life restart within.still.marks now image within.still.lasts plain;
   told = within.still.told;
-  telling = within.telling;
+  telling = within.still.telling;
 }
 
 -- ---- at each moment of a call
