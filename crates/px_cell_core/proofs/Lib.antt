@@ -9,4 +9,5 @@ pub mod Leaving
 pub mod Reading
 pub mod Still
 pub mod Telling
+pub mod Walking
 pub mod Writing

@@ -78,3 +78,11 @@ HasCallCause counts call old new (FaultOf fault) = MayMeet call fault × Rose ((
 HasCallCause counts call old new (LogFull n) = (n ≡ frames_of old) × (most_frames ≤ n)
 HasCallCause counts call old new (Damaged file place) = ⊤
 HasCallCause counts call old new (Broken error) = old.error ≡ Some error
+
+-- the cause of an error where the committed rows are asked for: a fault is one of a read, and was counted
+abbrev pub HasRowCause : {W : Type 0} → (W → Counts) → Kept W → Kept W → CoreError → Type 0
+HasRowCause counts old new OutOfMemory = ⊤
+HasRowCause counts old new (FaultOf fault) = (fault ≡ Read) × Rose ((counts old.site).faults Read) ((counts new.site).faults Read)
+HasRowCause counts old new (LogFull n) = ⊥
+HasRowCause counts old new (Damaged file place) = ⊤
+HasRowCause counts old new (Broken error) = old.error ≡ Some error

@@ -1,5 +1,5 @@
 -- What a session's call does to what a core keeps, where that has no error.
-use Rattle.std.specs.Prelude.{◌≡◌, ⊤, ℕ, ◌+◌, ◌<◌, true, length, Some, None, Result, IfOk, IfErr, IsSomeAnd, OnOk, OnErr}
+use Rattle.std.specs.Prelude.{◌≡◌, ⊤, ℕ, ◌+◌, ◌<◌, true, length, Option, Some, None, Result, IfOk, IfErr, IsSomeAnd, OnOk, OnErr}
 use Rattle.px_active.specs.Active.{IsActiveOf, MayTake}
 use Rattle.px_answers.specs.Reading.{ReadsOnly}
 use Rattle.px_answers.specs.Writing.{reply_done}
@@ -9,13 +9,17 @@ use Rattle.px_calls.specs.declared.reply.Reply.{Reply}
 use Rattle.px_calls.specs.Steps.{is_refusal, open_of, reply_of, state_after}
 use Rattle.px_cell_laws.specs.Locating.{AreWrittenAt}
 use Rattle.px_chain_laws.specs.Writing.{write_of}
+use Rattle.px_committed.specs.Rows.{first_past}
 use Rattle.px_held.specs.declared.error.HeldError.{HeldError}
 use Rattle.px_held.specs.declared.error.HeldError.TheVariants as held
 use Rattle.px_held.specs.Linking.{HasPlaceFor, IsNextPlace}
 use Rattle.px_history.specs.Fitting.{IsStoredNumber}
 use Rattle.px_history.specs.Store.{Store}
+use Rattle.px_logged.specs.Recounting.{rows_now}
+use Rattle.px_model.specs.declared.key.KeyOf.{KeyOf}
 use Rattle.px_model.specs.declared.limits.TheConstants.{MOST_WRITES}
 use Rattle.px_model.specs.declared.machine.Open.{Open}
+use Rattle.px_model.specs.declared.row.Row.{Row}
 use Rattle.px_model.specs.declared.write.Write.{Write}
 use Rattle.px_model.specs.Machine.{Machine}
 use Rattle.px_model.specs.Rows.{key_written}
@@ -25,7 +29,7 @@ use Rattle.px_standing.specs.Images.{LeavesOthers}
 use Rattle.px_tables.specs.Linking.{FitsSlot, bytes_of_key}
 use Rattle.px_working.specs.Follows.{last_store}
 use Rattle.px_xacts.specs.Transactions as xacts
-use Rattle.px_cell_core.specs.Core.{IsWell, MayMeet}
+use Rattle.px_cell_core.specs.Core.{HasRowCause, IsWell, MayMeet}
 use Rattle.px_cell_core.specs.Errors.{IsPassing}
 use Rattle.px_cell_core.specs.Working.{Answers, CountsFor, CountsVersions, FindsFull, Refuses, StandsWithin, WorksFor}
 use Rattle.px_cell_core.specs.declared.error.CoreError.{CoreError}
@@ -108,3 +112,17 @@ pub record Finds {W : Type 0} (tells : Type 0) (state : W → State) (counts : W
   pub may : tells → (m : Machine) (works : WorksFor state old m) → CountsVersions m → IfOk result (λ answer. IfOk answer (MayPut m (last_store works.life) session call))
   pub refusal : IfOk result (λ answer. IfErr answer (λ reply. is_refusal reply ≡ true))
   pub refused : tells → (m : Machine) → WorksFor state old m → CountsVersions m → IfOk result (λ answer. IfErr answer (λ reply. reply ≡ reply_of m session call))
+
+-- ---- the committed rows
+
+-- The answer is the first row past a key among the machine's that are committed now. It only reads.
+pub record Walks {W : Type 0} (tells : Type 0) (state : W → State) (counts : W → Counts) (after : Option KeyOf) (old new : Kept W)
+    (result : Result (Option Row) CoreError) : Type 0 where
+  pub row : tells → (m : Machine) → WorksFor state old m → IfOk result (λ row. row ≡ first_past after (rows_now m))
+  pub rest : new ≡ record old { site = new.site; held = new.held }
+  pub same : tells → state new.site ≡ state old.site
+  pub works : tells → (m : Machine) → WorksFor state old m → WorksFor state new m
+  pub cause : IfErr result (HasRowCause counts old new)
+  pub sound : tells → (m : Machine) → WorksFor state old m → IfErr result IsPassing
+  pub well : IsWell state new
+  pub none_fell : NoneFell (counts old.site) (counts new.site)

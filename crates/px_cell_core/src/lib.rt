@@ -2,7 +2,7 @@
 //!
 //! - `state`: `Core` over any site, and what it keeps. `state/calls`: one call of a session, whichever it is.
 //!   `state/reading`: the calls that change no cell; `state/writing`: the writes; `state/ending`: commit and rollback;
-//!   `state/logging`: a frame more, and the sync, after whose faults the core is broken.
+//!   `state/rows`: the rows that are committed now; `state/logging`: a frame more, and the sync, after whose faults the core is broken.
 //! - `error`: why a call gives up, and the status by which that ends a run.
 //!
 //! The definitions: `specs/Core` when what a core keeps is sound, and which calls may give up for what; `specs/Working` that it

@@ -14,6 +14,7 @@ mod calls;
 mod ending;
 mod logging;
 mod reading;
+mod rows;
 mod writing;
 
 use px_active::Active;
