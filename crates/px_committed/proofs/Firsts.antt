@@ -22,19 +22,19 @@ use Rattle.px_committed.specs.Walking.{HasCome, IsFirstIn, IsLeastPast, first_ta
 
 -- ---- keys in their order
 
-not_less : Equal ≡ Less → ⊥
-not_less e = true≢false (sym (ap is_lt e))
+equal_not_less : Equal ≡ Less → ⊥
+equal_not_less e = true≢false (sym (ap is_lt e))
 
-not_less_greater : Greater ≡ Less → ⊥
-not_less_greater e = true≢false (sym (ap is_lt e))
+greater_not_less : Greater ≡ Less → ⊥
+greater_not_less e = true≢false (sym (ap is_lt e))
 
 past_or_not : (last : Option (List ℕ)) (key : List ℕ) → IsPast last key ⊎ (¬ IsPast last key)
 past_or_not None key = inl tt
 past_or_not (Some last) key =
     (elim (slice_cmp nat_cmp last key) as (λ o. (o ≡ Less) ⊎ (¬ (o ≡ Less))) [
       | Less ↦ inl refl
-      | Equal ↦ inr not_less
-      | Greater ↦ inr not_less_greater
+      | Equal ↦ inr equal_not_less
+      | Greater ↦ inr greater_not_less
     ])
 
 past_further : (last : Option (List ℕ)) (key other : List ℕ) → IsPast last key → IsBefore key other → IsPast last other
@@ -220,7 +220,7 @@ unfolding key_cmp
 earlier key table bytes less = ⊎_elim
     (λ (lt : key.0 < table). inl lt)
     (λ (ge : table ≤ key.0). ⊎_elim
-    (λ (gt : table < key.0). absurd (not_less_greater (sym (ap (λ o. ordering_then o (slice_cmp nat_cmp key.1 bytes)) (cmp_greater key.0 table gt)) ∙ less)))
+    (λ (gt : table < key.0). absurd (greater_not_less (sym (ap (λ o. ordering_then o (slice_cmp nat_cmp key.1 bytes)) (cmp_greater key.0 table gt)) ∙ less)))
     (λ (le : key.0 ≤ table).
     let same : key.0 ≡ table = omega (arith, le, ge) in
     inr (same, sym (ap (λ o. ordering_then o (slice_cmp nat_cmp key.1 bytes)) (cmp_same key.0 table same)) ∙ less))

@@ -18,7 +18,8 @@ use px_site::Site;
 use px_xacts::Xacts;
 
 /// The first row past a key, in order of table and key, among those that are committed now; the first of all after None. None
-/// exactly where there is none. The store has so many tables, numbered from 1. It takes the time of the keys that are passed over.
+/// exactly where there is none. `tables` says how many tables the store has. It takes the time of the keys that are passed over.
+/// Fails for want of memory, or where a read of the site fails.
 pub fn next_row<W: Site>(
     site: &mut W,
     held: &mut Held,
