@@ -1,6 +1,9 @@
-//! Tests of what session calls are answered off the cells: a small store, read by three sessions, and the refusals of writes.
+//! Tests of what is read off the cells of a small store: what session calls are answered there, the refusals of writes, and the
+//! rows that are committed now.
 #![tactic(auto)]
 
+#[cfg(test)]
+mod committed;
 #[cfg(test)]
 mod making;
 #[cfg(test)]

@@ -9,8 +9,8 @@ use Rattle.px_script.specs.declared.lines.NextLine.TheVariants.{Line, End, Fault
 use Rattle.px_script.specs.Grammar.{command_line, longest_line, calls_of}
 use Rattle.px_script.specs.Lines.{complete_lines, open_line, last_line, lines_at_end}
 use Rattle.px_script.proofs.LineFeeds.{lines-last}
-use Rattle.px_script.specs.Progress.{Progress, HasCause, IsOpen, IsOverlong as IsOverlongHeld, Moves, TakesLine, ahead, longest_input, nothing_read}
-use Rattle.px_play.specs.Input.{AreCommands, EndsAt, IsBetween, IsFirstBad, script_of}
+use Rattle.px_script.specs.Progress.{Progress, HasCause, IsOpen, IsOverlong as IsOverlongHeld, Moves, TakesLine, ahead, longest_input, longest_piece, nothing_read}
+use Rattle.px_play.specs.Input.{AreCommands, EndsAt, IsBetween, IsFirstBad, TakesLittle, script_of}
 use Rattle.px_play.specs.Reading.{IsAsked, IsOver, IsRead, MayEnd}
 use Rattle.px_play.proofs.Parts.{lines_behind, open_behind, at_end_whole, at_end_behind, open_ended, open_nil, at_end_nil, line_ended, open_long, open_single, first_long}
 use Rattle.px_play.proofs.Calls.{calls_nil, calls_behind, commands_more, first_bad, call_at, long_none}
@@ -24,6 +24,7 @@ pub record Looks (old new : Progress) (left left_now : List ℕ) : Type 0 where
   pub at_end : new.ended ≡ true → left_now ≡ []
   pub stays : old.ended ≡ true → new.ended ≡ true
   pub below : new.ended ≡ true → new.count < longest_input
+  pub little : length new.held ≤ longest_line + longest_piece
 
 -- what was taken of the input: the lines that were handed out, and the bytes that are held
 record Takes (input : List ℕ) (progress : Progress) (left : List ℕ) (taken : List ℕ) : Type 0 where
@@ -60,6 +61,9 @@ still {input} {old} {new} {left} {left_now} {lines} read looks same cut =
       last = open_behind read.handed new.held cut;
     }
 
+little_so_far : {input : List ℕ} {old new : Progress} {left left_now : List ℕ} {lines : ℕ} (read : IsRead input old left lines) → Looks old new left left_now → Still input new left_now read.handed lines → TakesLittle input left_now lines
+little_so_far {input} {old} {new} read looks s = record { answered = read.handed; beyond = new.held; in_order = s.takes.in_order; count = read.count; little = omega (arith, looks.little) }
+
 read_so_far : {input : List ℕ} {new : Progress} {left_now handed : List ℕ} {lines : ℕ} → Still input new left_now handed lines → lines ≤ length (lines_at_end (handed ++ new.held))
 read_so_far {input} {new} {left_now} {handed} {lines} s =
     omega (arith, s.count, ap length s.complete, length-append (complete_lines handed) (complete_lines new.held), length-append (complete_lines (handed ++ new.held)) (last_line (open_line (handed ++ new.held))))
@@ -81,6 +85,13 @@ over_ends {input} {old} {new} {left} {left_now} {lines} read looks none ended sa
       fits = (record { nothing_left = nothing; below = omega (arith, size, looks.below ended) }, read.commands);
       read_before = omega (arith, read.count);
       counts = sym read.count;
+      little = record {
+        answered = read.handed;
+        beyond = [];
+        in_order = all ∙ ap (λ (front : List ℕ). front ++ left_now) (sym (append-nil read.handed));
+        count = read.count;
+        little = omega arith;
+      };
     }
 
 pub end_ends : {input : List ℕ} {old new : Progress} {left left_now : List ℕ} {lines : ℕ} → IsRead input old left lines → Looks old new left left_now → HasCause new End → Moves (ahead old left) (ahead new left_now) new End
@@ -120,6 +131,7 @@ fault_ends {input} {old} {new} {left} {left_now} {lines} read looks cause same =
       fits = (omega (arith, s.takes.size, cause.below), between s cause.open_line);
       read_before = read_so_far s;
       counts = answered_before s cause.open_line;
+      little = little_so_far read looks s;
     }
 
 pub much_ends : {input : List ℕ} {old new : Progress} {left left_now : List ℕ} {lines : ℕ} → IsRead input old left lines → Looks old new left left_now → HasCause new TooMuch → ahead new left_now ≡ ahead old left
@@ -133,6 +145,7 @@ much_ends {input} {old} {new} {left} {left_now} {lines} read looks cause same =
       fits = (omega (arith, s.takes.size, cause.1), between s cause.0);
       read_before = read_so_far s;
       counts = answered_before s cause.0;
+      little = little_so_far read looks s;
     }
 
 -- ---- memory was wanted
@@ -151,10 +164,11 @@ short_ends {input} {old} {new} {left} {left_now} {lines} read looks same = by_cu
           fits = tt;
           read_before = read_so_far s;
           counts = tt;
+          little = little_so_far read looks s;
         }
     by_cut (inr over) =
         let done = over_ends read looks (same ∙ over.nothing_ahead) (looks.stays over.ended) same in
-        record { taken = done.taken; in_order = done.in_order; within = done.within; fits = tt; read_before = done.read_before; counts = tt }
+        record { taken = done.taken; in_order = done.in_order; within = done.within; fits = tt; read_before = done.read_before; counts = tt; little = done.little }
 
 -- ---- a line that is too long
 
@@ -193,6 +207,7 @@ long_ends {input} {old} {new} {left} {left_now} {lines} read looks cause same =
       fits = long_fits s cause (complete_lines new.held) refl;
       read_before = read_so_far s;
       counts = refl;
+      little = little_so_far read looks s;
     }
 
 -- ---- a line
@@ -201,6 +216,7 @@ long_ends {input} {old} {new} {left} {left_now} {lines} read looks cause same =
 record Took (progress : Progress) (left_now bytes : List ℕ) : Type 0 where
   at_end : lines_at_end bytes ≡ progress.line ∷ []
   some : 0 < length bytes
+  few : length bytes ≤ longest_line + 1
   cut : (open_line bytes ≡ []) ⊎ IsOver progress left_now
 
 took : {before : List ℕ} {new : Progress} {left_now : List ℕ} → IsOpen new.line → TakesLine before (ahead new left_now) new → (bytes : List ℕ) × (before ≡ bytes ++ ahead new left_now) × Took new left_now bytes
@@ -211,6 +227,7 @@ took {before} {new} {left_now} fits (inl line) =
       record {
         at_end = whole;
         some = omega (arith, length-append new.line (10 ∷ []));
+        few = omega (arith, fits.short, length-append new.line (10 ∷ []));
         cut = inl (open_ended new.line);
       },
     )
@@ -220,6 +237,7 @@ took {before} {new} {left_now} fits (inr last) = (
   record {
     at_end = lines-last new.line fits.incomplete last.2;
     some = some_length new.line last.2;
+    few = omega (arith, fits.short);
     cut = inr (record { nothing_ahead = last.1; ended = last.3 });
   },
 )
@@ -237,6 +255,7 @@ record Hands (input : List ℕ) (new : Progress) (left_now handed bytes : List �
   long : lines ≤ length handed
   whole : new.count + length left_now ≡ length input
   within : new.count ≤ longest_input
+  behind : length new.held ≤ longest_piece
   at_end : new.ended ≡ true → left_now ≡ []
   below : new.ended ≡ true → new.count < longest_input
   takes : Took new left_now bytes
@@ -255,6 +274,7 @@ handed_on {input} {new} {left_now} {handed} {bytes} {lines} h c is = record {
   long = omega (arith, h.long, h.takes.some, length-append handed bytes);
   counted = h.whole;
   within = h.within;
+  behind = h.behind;
   at_end = h.at_end;
   below = h.below;
 }
@@ -292,6 +312,7 @@ record Reaches (input : List ℕ) (left_now taken : List ℕ) (lines : ℕ) (lin
   in_order : input ≡ taken ++ left_now
   within : length taken ≤ longest_input
   read_before : lines ≤ length (lines_at_end taken)
+  little : TakesLittle input left_now lines
   bad : command_line line ≡ None → EndsAt taken left_now (BadLine (lines + 1))
 
 reaches : {input : List ℕ} {new : Progress} {left_now handed bytes : List ℕ} {lines : ℕ} → Hands input new left_now handed bytes lines → Reaches input left_now (handed ++ bytes ++ new.held) lines new.line
@@ -302,6 +323,15 @@ reaches {input} {new} {left_now} {handed} {bytes} {lines} h = by_cut h.takes.cut
 
     takes : Takes input new left_now (front ++ new.held)
     takes = taken_of input front new left_now h.in_order h.whole
+
+    little : TakesLittle input left_now lines
+    little = record {
+      answered = handed;
+      beyond = bytes ++ new.held;
+      in_order = takes.in_order ∙ ap (λ (front : List ℕ). front ++ left_now) (append_assoc handed bytes new.held);
+      count = h.count;
+      little = omega (arith, h.takes.few, h.behind, length-append bytes new.held);
+    }
 
     number : (k : ℕ) → k ≡ lines → length (lines_at_end handed) + 1 ≡ k + 1
     number k is = omega (arith, h.count, is)
@@ -316,6 +346,7 @@ reaches {input} {new} {left_now} {handed} {bytes} {lines} h = by_cut h.takes.cut
           in_order = takes.in_order;
           within = omega (arith, takes.size, h.within);
           read_before = omega (arith, h.count, ap length whole, length-append (lines_at_end handed) (new.line ∷ complete_lines new.held), length-append (complete_lines (front ++ new.held)) (last_line (open_line (front ++ new.held))));
+          little = little;
           bad = λ none. inl (subst (IsFirstBad (complete_lines (front ++ new.held))) (number lines refl)
               (subst (λ (found : List (List ℕ)). IsFirstBad found (length (lines_at_end handed) + 1)) (sym whole) (first_bad (lines_at_end handed) new.line (complete_lines new.held) h.commands none)));
         }
@@ -327,6 +358,7 @@ reaches {input} {new} {left_now} {handed} {bytes} {lines} h = by_cut h.takes.cut
           in_order = takes.in_order;
           within = omega (arith, takes.size, h.within);
           read_before = omega (arith, h.count, ap length whole, length-append (lines_at_end handed) (new.line ∷ []));
+          little = little;
           bad = λ none. inr (inr (
             record { nothing_left = h.at_end over.ended; below = omega (arith, takes.size, h.below over.ended) },
             subst (IsFirstBad (lines_at_end (front ++ new.held))) (number lines refl)
@@ -335,8 +367,8 @@ reaches {input} {new} {left_now} {handed} {bytes} {lines} h = by_cut h.takes.cut
         }
 
 pub line_asked : {input : List ℕ} {old new : Progress} {left left_now : List ℕ} {lines : ℕ} → IsRead input old left lines → Looks old new left left_now → HasCause new Line → Moves (ahead old left) (ahead new left_now) new Line
-    → IsAsked input new left_now lines
-line_asked {input} {old} {new} {left} {left_now} {lines} read looks cause moves =
+    → length new.held ≤ longest_piece → IsAsked input new left_now lines
+line_asked {input} {old} {new} {left} {left_now} {lines} read looks cause moves behind =
     let took_line = took {before = ahead old left} {new = new} {left_now = left_now} cause moves in
     let some : 0 < length (ahead old left) = omega (arith, ap length took_line.1, length-append took_line.0 (ahead new left_now), took_line.2.some) in
     let h : Hands input new left_now read.handed took_line.0 lines = record {
@@ -347,6 +379,7 @@ line_asked {input} {old} {new} {left} {left_now} {lines} read looks cause moves 
       long = read.long;
       whole = counts_on read looks;
       within = looks.within;
+      behind = behind;
       at_end = looks.at_end;
       below = looks.below;
       takes = took_line.2;
@@ -355,11 +388,11 @@ line_asked {input} {old} {new} {left} {left_now} {lines} read looks cause moves 
     let taken : List ℕ = read.handed ++ took_line.0 ++ new.held in
     record {
       command = λ c is. (handed_call h c is, handed_on h c is);
-      bad = λ none. record { taken = taken; in_order = r.in_order; within = r.within; fits = r.bad none; read_before = r.read_before; counts = refl };
-      disk = λ fault. record { taken = taken; in_order = r.in_order; within = r.within; fits = tt; read_before = r.read_before; counts = tt };
-      output = record { taken = taken; in_order = r.in_order; within = r.within; fits = tt; read_before = r.read_before; counts = tt };
-      memory = record { taken = taken; in_order = r.in_order; within = r.within; fits = tt; read_before = r.read_before; counts = tt };
-      full = λ n. record { taken = taken; in_order = r.in_order; within = r.within; fits = tt; read_before = r.read_before; counts = tt };
+      bad = λ none. record { taken = taken; in_order = r.in_order; within = r.within; fits = r.bad none; read_before = r.read_before; counts = refl; little = r.little };
+      disk = λ fault. record { taken = taken; in_order = r.in_order; within = r.within; fits = tt; read_before = r.read_before; counts = tt; little = r.little };
+      output = record { taken = taken; in_order = r.in_order; within = r.within; fits = tt; read_before = r.read_before; counts = tt; little = r.little };
+      memory = record { taken = taken; in_order = r.in_order; within = r.within; fits = tt; read_before = r.read_before; counts = tt; little = r.little };
+      full = λ n. record { taken = taken; in_order = r.in_order; within = r.within; fits = tt; read_before = r.read_before; counts = tt; little = r.little };
     }
 
 -- ---- the beginning
@@ -374,6 +407,7 @@ nothing_handed input = record {
   long = omega arith;
   counted = omega arith;
   within = omega arith;
+  behind = omega arith;
   at_end = λ ended. absurd (true≢false (sym ended));
   below = λ ended. absurd (true≢false (sym ended));
 }

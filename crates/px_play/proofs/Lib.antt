@@ -2,6 +2,7 @@ pub mod Acking
 pub mod Answering
 pub mod Calls
 pub mod Committing
+pub mod Held
 pub mod Inputs
 pub mod Parts
 pub mod Places

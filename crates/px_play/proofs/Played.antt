@@ -23,7 +23,7 @@ use Rattle.px_logged.specs.Logged.{logged, logged_by_all}
 use Rattle.px_core.specs.Core.{Kept, frames_of}
 use Rattle.px_core.specs.Working.{WorksFor}
 use Rattle.px_play.specs.Acknowledged.{KeepsAcknowledged}
-use Rattle.px_play.specs.Causes.{HasPlayCause}
+use Rattle.px_play.specs.Causes.{HasPlayCause, faults_by}
 use Rattle.px_play.specs.Input.{EndsInput, script_of}
 use Rattle.px_play.specs.Told.{joined}
 use Rattle.px_play.specs.Playing.{AreNumbered, HoldsAll, IsSpared, PlaysRight, StopsFull, frames_after, pieces_of}
@@ -108,6 +108,7 @@ reading_ends {W} {state} counts {m} {old} {new} {input} {left} {answered} faults
       in_order = ends.may.in_order;
       whole = answered;
       read_before = ends.may.read_before;
+      little = ends.may.little;
       stops = ends.may.counts;
       told = record { front = 0; text = told_whole (state new.site) ends.played refl };
       holds = ends.played.made.holds;
@@ -119,6 +120,7 @@ reading_ends {W} {state} counts {m} {old} {new} {input} {left} {answered} faults
       in_order = ends.may.in_order;
       whole = answered;
       read_before = ends.may.read_before;
+      little = ends.may.little;
       stops = ends.may.counts;
       told = record { front = 0; text = told_whole (state new.site) ends.played refl };
       holds = ends.played.made.holds;
@@ -130,6 +132,7 @@ reading_ends {W} {state} counts {m} {old} {new} {input} {left} {answered} faults
       in_order = ends.may.in_order;
       whole = answered;
       read_before = ends.may.read_before;
+      little = ends.may.little;
       stops = ends.may.counts;
       told = record { front = 0; text = told_whole (state new.site) ends.played refl };
       holds = ends.played.made.holds;
@@ -141,6 +144,7 @@ reading_ends {W} {state} counts {m} {old} {new} {input} {left} {answered} faults
       in_order = ends.may.in_order;
       whole = answered;
       read_before = ends.may.read_before;
+      little = ends.may.little;
       stops = ends.may.counts;
       told = record { front = 0; text = told_whole (state new.site) ends.played refl };
       holds = ends.played.made.holds;
@@ -152,6 +156,7 @@ reading_ends {W} {state} counts {m} {old} {new} {input} {left} {answered} faults
       in_order = ends.may.in_order;
       whole = answered;
       read_before = ends.may.read_before;
+      little = ends.may.little;
       stops = ends.few;
       told = record { front = 0; text = told_whole (state new.site) ends.played refl };
       holds = tt;
@@ -232,6 +237,7 @@ turn_ends {W} {m} {old} {mid} {new} {input} {left} {progress} {answered} state c
           in_order = may.in_order;
           whole = answered;
           read_before = may.read_before;
+          little = may.little;
           stops = slice_get_within script answered cause.0 (asked.command cause.0 cause.1).0;
           told = record { front = 0; text = told_whole (state new.site) played (plays cause.0 cause.1) };
           holds = tt;
@@ -247,6 +253,7 @@ turn_ends {W} {m} {old} {mid} {new} {input} {left} {progress} {answered} state c
           in_order = may.in_order;
           whole = answered;
           read_before = may.read_before;
+          little = may.little;
           stops = slice_get_within script answered cause.0 (asked.command cause.0 cause.1).0;
           told = record { front = part.0; text = front_told cause.0 cause.1 part.0 part.1.told };
           holds = made.holds;
@@ -261,6 +268,7 @@ turn_ends {W} {m} {old} {mid} {new} {input} {left} {progress} {answered} state c
           in_order = may.in_order;
           whole = answered;
           read_before = may.read_before;
+          little = may.little;
           stops = full cause.0 cause.1 n found;
           told = record { front = 0; text = told_whole (state new.site) played found.told };
           holds = record { works = found.still.works; frames = found.still.frames ∙ played.made.holds.frames };
@@ -274,6 +282,7 @@ turn_ends {W} {m} {old} {mid} {new} {input} {left} {progress} {answered} state c
           in_order = may.in_order;
           whole = answered;
           read_before = may.read_before;
+          little = may.little;
           stops = few;
           told = record { front = 0; text = told_whole (state new.site) played (short_told (command_line progress.line) refl plays) };
           holds = tt;
@@ -343,6 +352,15 @@ turn_cause old mid new reads reads_now OutOfMemory fell cause = tt
 turn_cause old mid new reads reads_now (LogFull n) fell cause = cause
 turn_cause old mid new reads reads_now TooLong fell cause = tt
 turn_cause old mid new reads reads_now _ fell cause = absurd cause
+
+-- no read failed where a run ends at a line
+pub turn_faults : (line : List ℕ) (number : ℕ) (status : Status) → HasTurnEnd line number status → (faults now : ℕ) → now ≡ faults → now ≡ faults_by status faults
+turn_faults line number (BadLine k) cause faults now same = same
+turn_faults line number (DiskFault fault) cause faults now same = same
+turn_faults line number OutputFault cause faults now same = same
+turn_faults line number (LogFull n) cause faults now same = same
+turn_faults line number OutOfMemory cause faults now same = same
+turn_faults line number _ cause faults now same = absurd cause
 
 pub reading_cause : (old new : Counts) (reads mid reads_now : ℕ) (status : Status) → reads ≤ mid → HasReadEnd mid reads_now status → HasPlayCause old new reads reads_now status
 reading_cause old new reads mid reads_now Done rises cause = tt

@@ -2,7 +2,7 @@
 use Rattle.std.specs.Prelude.{◌≢◌, ⊤, ℕ, ◌≤◌}
 use Rattle.px_site.specs.declared.error.Fault.TheVariants.{Tell}
 use Rattle.px_site.specs.Cause.{Counts, Rose}
-use Rattle.px_source.specs.Source.{Rose as ReadRose}
+use Rattle.px_source.specs.Source.{Rose as ReadRose, one_more}
 use Rattle.px_calls.specs.declared.status.Status.{Status}
 use Rattle.px_calls.specs.declared.status.Status.TheVariants.{Done, Usage, BadLine, NoStore, NotEmpty, Damaged, DiskFault, SourceFault, OutputFault, OutOfMemory, LogFull, TooLong}
 use Rattle.px_xlog.specs.Log.{most_frames}
@@ -21,3 +21,8 @@ HasPlayCause old new reads reads_now OutputFault = Rose old.tell_faults new.tell
 HasPlayCause old new reads reads_now OutOfMemory = ⊤
 HasPlayCause old new reads reads_now (LogFull n) = most_frames ≤ n
 HasPlayCause old new reads reads_now TooLong = ⊤
+
+-- the count of failed reads where a run ends: one that failed ends it, and so it is the last one
+abbrev pub faults_by : Status → ℕ → ℕ
+faults_by SourceFault faults = one_more faults
+faults_by _ faults = faults

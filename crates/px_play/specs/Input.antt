@@ -5,7 +5,7 @@ use Rattle.px_calls.specs.declared.status.Status.{Status}
 use Rattle.px_calls.specs.declared.status.Status.TheVariants.{Done, BadLine, SourceFault, TooLong}
 use Rattle.px_script.specs.Grammar.{calls_of, longest_line}
 use Rattle.px_script.specs.Lines.{complete_lines, open_line, lines_at_end}
-use Rattle.px_script.specs.Progress.{longest_input}
+use Rattle.px_script.specs.Progress.{longest_input, longest_piece}
 
 -- the calls of an input, up to its first line that is no command
 unfoldable pub script_of : List ℕ → List (ℕ × Call)
@@ -49,3 +49,11 @@ pub record EndsInput (before left : List ℕ) (status : Status) : Type 0 where
   pub in_order : before ≡ taken ++ left
   pub within : length taken ≤ longest_input
   pub fits : EndsAt taken left status
+
+-- so many lines were answered; of what stands behind them one line, its line feed and one piece were taken, at most
+pub record TakesLittle (before left : List ℕ) (lines : ℕ) : Type 0 where
+  pub answered : List ℕ
+  pub beyond : List ℕ
+  pub in_order : before ≡ answered ++ beyond ++ left
+  pub count : length (lines_at_end answered) ≡ lines
+  pub little : length beyond ≤ longest_line + 1 + longest_piece

@@ -16,7 +16,7 @@ use Rattle.px_xlog.specs.Log.{most_frames}
 use Rattle.px_logged.specs.Logged.{logged, logged_by_all}
 use Rattle.px_core.specs.Core.{Kept, frames_of}
 use Rattle.px_core.specs.Working.{WorksFor}
-use Rattle.px_play.specs.Input.{script_of}
+use Rattle.px_play.specs.Input.{TakesLittle, script_of}
 use Rattle.px_play.specs.Told.{IsTold}
 
 -- the reply to each call, in order
@@ -99,6 +99,7 @@ pub record PlaysRight {W : Type 0} (state : W → State) (counts : W → Counts)
   pub in_order : input ≡ taken ++ left
   pub whole : ℕ
   pub read_before : whole ≤ length (lines_at_end taken)
+  pub little : TakesLittle input left whole
   pub stops : StopsAfter (frames_of old) m (script_of input) taken whole status
   pub told : IsTold (pieces_of m (script_of input)) whole status (state old.site) (state new.site)
   pub holds : UnlessBroken status (HoldsAll state m (take (calls_made status whole) (script_of input)) old new)

@@ -7,8 +7,8 @@ use Rattle.px_calls.specs.declared.status.Status.{Status}
 use Rattle.px_calls.specs.declared.status.Status.TheVariants.{Done, BadLine, SourceFault, OutOfMemory, TooLong, DiskFault, OutputFault, LogFull}
 use Rattle.px_script.specs.Grammar.{command_line}
 use Rattle.px_script.specs.Lines.{complete_lines, open_line, lines_at_end}
-use Rattle.px_script.specs.Progress.{Progress, ahead, longest_input}
-use Rattle.px_play.specs.Input.{AreCommands, EndsAt, script_of}
+use Rattle.px_script.specs.Progress.{Progress, ahead, longest_input, longest_piece}
+use Rattle.px_play.specs.Input.{AreCommands, EndsAt, TakesLittle, script_of}
 
 -- the last line was handed out, and had no line feed
 pub record IsOver (progress : Progress) (left : List ℕ) : Type 0 where
@@ -25,6 +25,7 @@ pub record IsRead (input : List ℕ) (progress : Progress) (left : List ℕ) (li
   pub long : lines ≤ length handed
   pub counted : progress.count + length left ≡ length input
   pub within : progress.count ≤ longest_input
+  pub behind : length progress.held ≤ longest_piece
   pub at_end : progress.ended ≡ true → left ≡ []
   pub below : progress.ended ≡ true → progress.count < longest_input
 
@@ -44,6 +45,7 @@ pub record MayEnd (input left : List ℕ) (lines : ℕ) (status : Status) : Type
   pub fits : EndsAt taken left status
   pub read_before : lines ≤ length (lines_at_end taken)
   pub counts : CountsLines taken lines status
+  pub little : TakesLittle input left lines
 
 -- a line was handed out, and is to be answered
 pub record IsAsked (input : List ℕ) (progress : Progress) (left : List ℕ) (lines : ℕ) : Type 0 where

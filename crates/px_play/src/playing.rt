@@ -5,7 +5,7 @@ ghost use Rattle.px_model.specs.Machine.{Machine, commits};
 ghost use Rattle.px_calls.specs.Histories.{state_after_all};
 ghost use Rattle.px_core.specs.Working.{WorksFor};
 ghost use Rattle.px_play.specs.Acknowledged.{KeepsAcknowledged, TellsWhole, acknowledged};
-ghost use Rattle.px_play.specs.Causes.{HasPlayCause};
+ghost use Rattle.px_play.specs.Causes.{HasPlayCause, faults_by};
 ghost use Rattle.px_play.specs.Input.{EndsInput, script_of};
 ghost use Rattle.px_play.specs.Playing.{PlaysRight};
 
@@ -37,6 +37,7 @@ pub fn play<W: Site, S: Source>(alloc: Global, core: &mut Core<W>, source: &mut 
     ensures cause { HasPlayCause (W.counts core.old.site) (W.counts core.new.site) (S.faults source.old) (S.faults source.new) result }
     ensures none_fell { NoneFell (W.counts core.old.site) (W.counts core.new.site) }
     ensures source_none_fell { S.faults source.old ≤ S.faults source.new }
+    ensures source_faults { S.faults source.new ≡ faults_by result (S.faults source.old) }
     ensures input { S.tells → EndsInput (S.left source.old) (S.left source.new) result }
     ensures plays { W.tells → S.tells → (m : Machine) → WorksFor W.state core.old m
         → PlaysRight W.state W.counts m core.old core.new (S.left source.old) (S.left source.new) result }

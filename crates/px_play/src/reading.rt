@@ -1,5 +1,6 @@
 // The next line of a script.
 ghost use Rattle.std.specs.Prelude.{◌≡◌, ◌+◌, ◌-◌, ◌^◌, ◌<◌, ◌≤◌, ℕ, List, [], true, IfErr, OnOk};
+ghost use Rattle.px_play.specs.Causes.{faults_by};
 ghost use Rattle.px_play.specs.Reading.{HasReadEnd, IsAsked, IsRead, MayEnd};
 
 use px_calls::Status;
@@ -18,6 +19,8 @@ pub(crate) fn next_line<S: Source>(
     ensures asked { S.tells → (input : List ℕ) → IsRead input lines.old (S.left source.old) answered → OnOk result (IsAsked input lines.new (S.left source.new) answered) }
     ensures ends { S.tells → (input : List ℕ) → IsRead input lines.old (S.left source.old) answered → IfErr result (MayEnd input (S.left source.new) answered) }
     ensures cause { IfErr result (HasReadEnd (S.faults source.old) (S.faults source.new)) }
+    ensures faults { IfErr result (λ status. S.faults source.new ≡ faults_by status (S.faults source.old)) }
+    ensures no_fault { OnOk result (S.faults source.new ≡ S.faults source.old) }
     ensures none_fell { S.faults source.old ≤ S.faults source.new }
 {
     let Ok(next) = lines.next(source) else {

@@ -38,6 +38,7 @@ lent_runs found input left a b old new status runs = record {
   in_order = runs.in_order;
   whole = runs.whole;
   read_before = runs.read_before;
+  behind = runs.behind;
   ends = runs.ends;
   told = runs.told;
   holds = runs.holds;

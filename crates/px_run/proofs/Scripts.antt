@@ -15,10 +15,11 @@ use Rattle.px_core.specs.Core.{Kept, frames_of}
 use Rattle.px_core.specs.Working.{WorksFor}
 use Rattle.px_recovery.specs.declared.opening.OpenReport.{OpenReport}
 use Rattle.px_recovery.specs.declared.error.OpenError.{OpenError}
-use Rattle.px_recovery.specs.declared.error.OpenError.TheVariants.{OutOfMemory as OpenShort, Fault as OpenFault}
+use Rattle.px_recovery.specs.declared.error.OpenError.TheVariants.{OutOfMemory as OpenShort, Fault as OpenFault, NoStore as OpenNone, Damaged as OpenDamaged}
 use Rattle.px_recovery.specs.Errors.{IsPassing, status_of_opening}
 use Rattle.px_recovery.specs.Opening.{report_of}
 use Rattle.px_play.specs.Acknowledged.{KeepsAcknowledged, TellsWhole, acknowledged}
+use Rattle.px_play.specs.Causes.{faults_by}
 use Rattle.px_play.specs.Input.{script_of}
 use Rattle.px_play.specs.Playing.{AreNumbered, HoldsAll, IsSpared, OnShort, PlaysRight, StopsAfter, StopsFull, UnlessBroken, calls_made as replies_made, pieces_of}
 use Rattle.px_play.specs.Told.{IsTold}
@@ -26,7 +27,7 @@ use Rattle.px_play.proofs.Parts.{open_nil}
 use Rattle.px_play.proofs.Replies.{quiet_acknowledged}
 use Rattle.px_play.proofs.Stays.{stands_whole}
 use Rattle.px_run.specs.Running.{RunEnds, calls_made, machine_after, machine_left, opening_line, run_pieces}
-use Rattle.px_run.specs.Working.{RunsBy, RunsScript, TellsPiece}
+use Rattle.px_run.specs.Working.{HasTellCause, RunsBy, RunsScript, TellsPiece}
 use Rattle.px_run.proofs.Pieces.{piece_moments, told_behind, told_from, told_nothing}
 use Rattle.px_run.proofs.Quiet.{AddsNothing, front_after, front_within, opening_acknowledges, opening_keeps, opening_quiet, quiet_keeps, starting_holds, starting_told}
 
@@ -126,6 +127,7 @@ script_played {W} {state} {counts} {found} {old} {new} {input} {left} {a} {x} {s
       in_order = p.in_order;
       whole = suc p.whole;
       read_before = omega (arith, p.read_before);
+      behind = p.little;
       ends = run_ends found script p.taken p.whole status (subst (λ (n : ℕ). StopsAfter n m script p.taken p.whole status) frames p.stops);
       told = told_behind (opening_line found) (pieces_of m script) p.whole status a (state old.site) (state new.site) line p.told;
       holds = subst (λ (n : ℕ). UnlessBroken status (WorksFor state new (machine_after found (take n script)))) (sym (made_behind status p.whole))
@@ -149,6 +151,7 @@ nothing_told found input a b x y OutOfMemory on same = record {
   in_order = refl;
   whole = 0;
   read_before = omega arith;
+  behind = refl;
   ends = omega arith;
   told = told_nothing (run_pieces found (script_of input)) OutOfMemory same;
   holds = tt;
@@ -160,6 +163,7 @@ nothing_told found input a b x y (DiskFault fault) on same = record {
   in_order = refl;
   whole = 0;
   read_before = omega arith;
+  behind = refl;
   ends = omega arith;
   told = told_nothing (run_pieces found (script_of input)) (DiskFault fault) same;
   holds = tt;
@@ -177,6 +181,7 @@ line_untold found input a b x y OutputFault holds tells = record {
   in_order = refl;
   whole = 0;
   read_before = omega arith;
+  behind = refl;
   ends = omega arith;
   told = record {
     front = tells.0;
@@ -207,6 +212,7 @@ run_behind {W} {state} counts {found} {core} {input} {left} {a} {b} {x} {y} {sta
       in_order = runs.in_order;
       whole = runs.whole;
       read_before = runs.read_before;
+      behind = runs.behind;
       ends = runs.ends;
       told = subst (λ (w : W). IsTold (run_pieces found script) runs.whole status a (state w)) (sym closed) (told_from (run_pieces found script) runs.whole status a b (state core.site) same runs.told);
       holds = unless_broken status (settles (machine_left found script runs.whole status)) runs.holds;
@@ -221,3 +227,16 @@ pub not_opened : (found : Found) (input : List ℕ) (a b : State) (x y : Counts)
 not_opened found input a b x y OpenShort passing same = nothing_told found input a b x y OutOfMemory tt same
 not_opened found input a b x y (OpenFault fault) passing same = nothing_told found input a b x y (DiskFault fault) tt same
 not_opened found input a b x y _ passing same = absurd passing
+
+-- ---- where nothing was read
+
+pub untold_faults : (x y : Counts) (status : Status) → HasTellCause x y status → (faults : ℕ) → faults ≡ faults_by status faults
+untold_faults x y OutputFault cause faults = refl
+untold_faults x y OutOfMemory cause faults = refl
+untold_faults x y _ cause faults = absurd cause
+
+pub unopened_faults : (error : OpenError) (faults : ℕ) → faults ≡ faults_by (status_of_opening error) faults
+unopened_faults OpenShort faults = refl
+unopened_faults (OpenFault fault) faults = refl
+unopened_faults OpenNone faults = refl
+unopened_faults (OpenDamaged file place) faults = refl

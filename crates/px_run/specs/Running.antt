@@ -1,5 +1,5 @@
 -- `run` on a store that is found in the files, with an input that tells its bytes.
-use Rattle.std.specs.Prelude.{◌≡◌, ℕ, ◌+◌, ◌-◌, ◌≤◌, List, ◌∷◌, ◌++◌, length, take}
+use Rattle.std.specs.Prelude.{◌≡◌, ℕ, zero, suc, ◌+◌, ◌-◌, ◌≤◌, List, ◌∷◌, ◌++◌, length, take}
 use Rattle.px_site.specs.State.{State}
 use Rattle.px_site.specs.Cause.{Counts}
 use Rattle.px_model.specs.Machine.{Machine}
@@ -10,7 +10,7 @@ use Rattle.px_calls.specs.Histories.{FirstCommitterWins, state_after_all}
 use Rattle.px_calls.specs.Texts.{opened_line}
 use Rattle.px_script.specs.Lines.{complete_lines, lines_at_end}
 use Rattle.px_standing.specs.Found.{Found, HoldsStore, machine_of}
-use Rattle.px_play.specs.Input.{script_of}
+use Rattle.px_play.specs.Input.{TakesLittle, script_of}
 use Rattle.px_play.specs.Playing.{AreNumbered, IsSpared, OnShort, StopsFull, UnlessBroken, pieces_of}
 use Rattle.px_run.specs.Told.{TellsInAll}
 
@@ -64,3 +64,14 @@ pub record RunsRight (found : Found) (input left : List ℕ) (old new : State) (
   pub numbered : AreNumbered found.frames (machine_of found) (take (calls_made status whole) (script_of input))
   -- of two transactions that the calls committed with a key in common the later one began after the earlier one ended
   pub first_committer_wins : FirstCommitterWins (machine_left found (script_of input) whole status).ended
+
+-- so many pieces were told whole: before the opened line was, nothing was taken of the input, and then little beyond the answered lines
+abbrev pub TakesBehind : (input left : List ℕ) → (whole : ℕ) → Type 0
+TakesBehind input left zero = left ≡ input
+TakesBehind input left (suc answered) = TakesLittle input left answered
+
+-- what `run` told, and that it took little more of its input than it answered
+pub record TakesAsTold (found : Found) (input left : List ℕ) (old new : State) (counts counts_now : Counts) (status : Status) : Type 0 where
+  pub whole : ℕ
+  pub told : TellsInAll (run_pieces found (script_of input)) whole status old new counts counts_now
+  pub taken : TakesBehind input left whole

@@ -16,7 +16,7 @@ use Rattle.px_play.specs.Playing.{AreNumbered, IsSpared, OnShort, UnlessBroken}
 use Rattle.px_play.specs.Told.{joined, IsTold}
 use Rattle.px_run.specs.Dumping.{DumpEnds, OnDone, dump_pieces}
 use Rattle.px_run.specs.Making.{MakeEnds, made_pieces}
-use Rattle.px_run.specs.Running.{RunEnds, calls_made, machine_after, machine_left, run_pieces}
+use Rattle.px_run.specs.Running.{RunEnds, TakesBehind, calls_made, machine_after, machine_left, run_pieces}
 use Rattle.px_run.specs.Told.{OnlyTells, TellFailed}
 
 -- ---- one piece
@@ -80,6 +80,7 @@ pub record RunsBy (Holds : Machine → Type 0) (found : Found) (input left : Lis
   pub in_order : input ≡ taken ++ left
   pub whole : ℕ
   pub read_before : whole ≤ 1 + length (lines_at_end taken)
+  pub behind : TakesBehind input left whole
   pub ends : RunEnds found (script_of input) taken whole status
   pub told : IsTold (run_pieces found (script_of input)) whole status old new
   pub holds : UnlessBroken status (Holds (machine_left found (script_of input) whole status))

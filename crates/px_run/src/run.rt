@@ -6,13 +6,14 @@ ghost use Rattle.px_source.specs.Source.{Rose as ReadRose};
 ghost use Rattle.px_standing.specs.Images.{CanMake, ImagesAreNew, ImagesStandFor};
 ghost use Rattle.px_standing.specs.Found.{Found, IsFound, IsSettledStore};
 ghost use Rattle.px_play.specs.Acknowledged.{KeepsAcknowledged};
+ghost use Rattle.px_play.specs.Causes.{faults_by};
 ghost use Rattle.px_play.specs.Input.{EndsInput, script_of};
 ghost use Rattle.px_run.specs.Causes.{HasStatusCause, NoCountFell, ReadsNothing, RefusesBad, ShowsRefusal, TellsLineAlone};
 ghost use Rattle.px_run.specs.Command.{IsMakeable, command_of, opens};
 ghost use Rattle.px_run.specs.Dumping.{DumpsRight};
 ghost use Rattle.px_run.specs.Making.{MakesRight};
 ghost use Rattle.px_run.specs.Premises.{CanRun, IsDoneOrShort, IsEmpty, NoneRose};
-ghost use Rattle.px_run.specs.Running.{RunsRight, machine_after};
+ghost use Rattle.px_run.specs.Running.{RunsRight, TakesAsTold, machine_after};
 ghost use Rattle.px_run.specs.Working.{DumpsRows, MakesStore, RefusesQuietly, RunsScript};
 ghost use Rattle.px_run.specs.declared.command.Command.{Command};
 
@@ -34,7 +35,7 @@ use std::alloc::Global;
 /// - `make N S` makes a store with so many tables, 1 to 8, and this short length, 16 to 1,024 bytes, where none is, and
 ///   tells `made N S`.
 /// - `run` opens the store, tells what it found, and answers the lines of the input in order: each reply is told before the
-///   next line is looked for.
+///   next line is looked for, and of the input no more is taken than one line and one piece beyond the answered ones.
 /// - `dump` opens the store, and tells how many rows it has and a line for each, in order of table and key.
 ///
 /// The first error ends the call. `Usage`: the words are none of these. `NoStore` and `Damaged`: `run` and `dump` found no
@@ -58,10 +59,14 @@ pub fn pbxt_run<W: Site, S: Source>(
     ensures none_fell { NoCountFell (W.counts site.old) (W.counts site.new) }
     ensures source_none_fell { S.faults source.old ≤ S.faults source.new }
 
-    // ---- how the input was read
+    // ---- how the input was read; each telling may be refused, and ends the run, so that `taken` holds at each answer
     ensures input { S.tells → command_of words.now ≡ Some Command.Run → EndsInput (S.left source.old) (S.left source.new) result }
     ensures unopened { S.tells → command_of words.now ≡ Some Command.Run → ReadsNothing (S.left source.old) (S.left source.new) result }
     ensures unread { S.tells → command_of words.now ≢ Some Command.Run → S.left source.new ≡ S.left source.old }
+    ensures read_faults { command_of words.now ≡ Some Command.Run → S.faults source.new ≡ faults_by result (S.faults source.old) }
+    ensures taken { W.tells → S.tells → command_of words.now ≡ Some Command.Run
+        → (found : Found) → IsFound found (W.state site.old).content
+        → TakesAsTold found (S.left source.old) (S.left source.new) (W.state site.old) (W.state site.new) (W.counts site.old) (W.counts site.new) result }
 
     // ---- `run`: what it told and left, each moment, and that it isn't given up
     ensures runs { W.tells → S.tells → command_of words.now ≡ Some Command.Run
@@ -115,6 +120,7 @@ fn carry_out_on<W: Site, S: Source>(
     ensures input { S.tells → command ≡ Some Command.Run → EndsInput (S.left source.old) (S.left source.new) result }
     ensures unopened { S.tells → command ≡ Some Command.Run → ReadsNothing (S.left source.old) (S.left source.new) result }
     ensures unread { S.tells → command ≢ Some Command.Run → S.left source.new ≡ S.left source.old }
+    ensures read_faults { command ≡ Some Command.Run → S.faults source.new ≡ faults_by result (S.faults source.old) }
     ensures runs { W.tells → S.tells → command ≡ Some Command.Run
         → (found : Found) → IsFound found (W.state site.old).content
         → RunsScript found (S.left source.old) (S.left source.new) (W.state site.old) (W.state site.new) (W.counts site.old) (W.counts site.new) result }
@@ -153,6 +159,7 @@ fn carry_out<W: Site, S: Source>(
     ensures input { S.tells → command ≡ Some Command.Run → EndsInput (S.left source.old) (S.left source.new) result.status }
     ensures unopened { S.tells → command ≡ Some Command.Run → ReadsNothing (S.left source.old) (S.left source.new) result.status }
     ensures unread { S.tells → command ≢ Some Command.Run → S.left source.new ≡ S.left source.old }
+    ensures read_faults { command ≡ Some Command.Run → S.faults source.new ≡ faults_by result.status (S.faults source.old) }
     ensures runs { W.tells → S.tells → command ≡ Some Command.Run
         → (found : Found) → IsFound found (W.state site).content
         → RunsScript found (S.left source.old) (S.left source.new) (W.state site) (W.state result.site) (W.counts site) (W.counts result.site) result.status }

@@ -6,7 +6,7 @@ ghost use Rattle.px_standing.specs.Found.{Found, IsFound, IsSettledStore};
 ghost use Rattle.px_core.specs.Working.{WorksFor};
 ghost use Rattle.px_recovery.specs.Opening.{OpensTo};
 ghost use Rattle.px_play.specs.Acknowledged.{KeepsAcknowledged};
-ghost use Rattle.px_play.specs.Causes.{HasPlayCause};
+ghost use Rattle.px_play.specs.Causes.{HasPlayCause, faults_by};
 ghost use Rattle.px_play.specs.Input.{EndsInput, script_of};
 ghost use Rattle.px_run.specs.Causes.{HasStatusCause, ReadsNothing, RefusesBad, ShowsRefusal};
 ghost use Rattle.px_run.specs.Running.{machine_after};
@@ -30,6 +30,7 @@ pub(crate) fn run_script<W: Site, S: Source>(alloc: Global, source: &mut S, site
     ensures quiet { W.tells → RefusesQuietly (W.state site) (W.state result.site) result.status }
     ensures input { S.tells → EndsInput (S.left source.old) (S.left source.new) result.status }
     ensures unopened { S.tells → ReadsNothing (S.left source.old) (S.left source.new) result.status }
+    ensures read_faults { S.faults source.new ≡ faults_by result.status (S.faults source.old) }
     ensures runs { W.tells → S.tells → (found : Found) → IsFound found (W.state site).content
         → RunsScript found (S.left source.old) (S.left source.new) (W.state site) (W.state result.site) (W.counts site) (W.counts result.site) result.status }
     ensures moments { W.tells → S.tells → (found : Found) → IsSettledStore found (W.state site)
@@ -56,6 +57,7 @@ fn play_opened<W: Site, S: Source>(alloc: Global, opened: &mut Opened<W>, source
     requires { opened.old.core.error ≡ None }
     ensures cause { HasPlayCause (W.counts opened.old.core.site) (W.counts opened.new.core.site) (S.faults source.old) (S.faults source.new) result }
     ensures input { S.tells → EndsInput (S.left source.old) (S.left source.new) result }
+    ensures read_faults { S.faults source.new ≡ faults_by result (S.faults source.old) }
     ensures runs { W.tells → S.tells → (found : Found) → OpensTo W.state found opened.old.core opened.old.report
         → RunsBy (WorksFor W.state opened.new.core) found (S.left source.old) (S.left source.new)
         (W.state opened.old.core.site) (W.state opened.new.core.site) (W.counts opened.old.core.site) (W.counts opened.new.core.site) result }

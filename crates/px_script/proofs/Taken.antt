@@ -1,19 +1,32 @@
 -- What an answer takes of an input.
-use Rattle.std.proofs.Common.{◌≡◌, ℕ, true, false, List, [], ◌∷◌, ◌++◌, length, Result, Ok, Err, refl, sym, ap, ◌∙◌, arith, inl, inr}
+use Rattle.std.proofs.Common.{◌≡◌, ◌≢◌, ℕ, Some, true, false, List, [], ◌∷◌, ◌++◌, length, Result, Ok, Err, refl, sym, ap, ◌∙◌, arith, inl, inr}
 use Rattle.std.proofs.lemmas.Bool.{eqb-true}
 use Rattle.std.proofs.lemmas.List.{append-nil, append_assoc, length-append, nil_from_length}
 use Rattle.std.specs.Result.{IfOk, is_err}
 use Rattle.std.specs.declared.alloc.AllocError.{AllocError}
+use Rattle.px_source.specs.Source.{faults_after}
 use Rattle.px_script.specs.declared.lines.NextLine.{NextLine}
 use Rattle.px_script.specs.declared.lines.NextLine.TheVariants.{Line, End, Fault, TooLong, LongLine}
 use Rattle.px_script.specs.Lines.{complete_lines, open_line, lines_at_end}
-use Rattle.px_script.specs.Progress.{Progress, AddsPiece, HasCause, IsInOrder, Moves, ahead}
+use Rattle.px_script.specs.Progress.{Progress, AddsPiece, HasCause, IsInOrder, Moves, ahead, faults_by}
 use Rattle.px_script.proofs.LineFeeds.{lines-first, lines-last}
 
 -- a read that didn't fail
 pub read_ok : {P E : Type 0} (read : Result (Unit {0}) E) → is_err read ≡ false → IfOk read (λ _. P) → P
 read_ok (Ok unit) ok h = h
 read_ok (Err fault) ok h = absurd (cc ok)
+
+pub read_faults : {E : Type 0} (read : Result (Unit {0}) E) (faults now : ℕ) → is_err read ≡ false → now ≡ faults_after read faults → now ≡ faults
+read_faults (Ok unit) faults now ok same = same
+read_faults (Err fault) faults now ok same = absurd (cc ok)
+
+-- an answer that isn't of a fault
+pub no_fault_by : (next : NextLine) (faults now : ℕ) → Some next ≢ Some Fault → now ≡ faults → now ≡ faults_by (Ok next) faults
+no_fault_by Line faults now other same = same
+no_fault_by End faults now other same = same
+no_fault_by Fault faults now other same = absurd (other refl)
+no_fault_by TooLong faults now other same = same
+no_fault_by LongLine faults now other same = same
 
 -- a piece comes from the front of what is left
 pub piece-ahead : (tells : Type 0) (old new : Progress) (left left_now : List ℕ) → tells → AddsPiece tells old new left left_now → ahead new left_now ≡ ahead old left

@@ -1,5 +1,7 @@
 -- How far the reading of an input has come, and what a reader of lines answers.
-use Rattle.std.specs.Prelude.{◌≡◌, ◌≢◌, ◌⊎◌, ℕ, ◌+◌, ◌^◌, ◌<◌, ◌≤◌, ◌==◌, Bool, true, false, List, [], ◌∷◌, ◌++◌, length, take}
+use Rattle.std.specs.Prelude.{◌≡◌, ◌≢◌, ◌⊎◌, ℕ, ◌+◌, ◌^◌, ◌<◌, ◌≤◌, ◌==◌, Bool, true, false, List, [], ◌∷◌, ◌++◌, length, take, Result, Ok, Err}
+use Rattle.std.specs.declared.alloc.AllocError.{AllocError}
+use Rattle.px_source.specs.Source.{one_more}
 use Rattle.px_script.specs.declared.lines.NextLine.{NextLine}
 use Rattle.px_script.specs.declared.lines.NextLine.TheVariants.{Line, End, Fault, TooLong, LongLine}
 use Rattle.px_script.specs.Grammar.{longest_line}
@@ -9,6 +11,10 @@ use Rattle.px_script.specs.Piece.{Appends}
 -- the longest input in bytes that is read
 abbrev pub longest_input : ℕ
 longest_input = 2 ^ 30
+
+-- how many bytes are read at once, at most
+abbrev pub longest_piece : ℕ
+longest_piece = 65536
 
 -- `held` was read and isn't handed out, `line` was handed out last, `count` bytes were read in all, and `ended` tells that a read answered the end
 pub record Progress : Type 0 where
@@ -65,6 +71,24 @@ IsInOrder before now progress Line = lines_at_end before ≡ progress.line ∷ l
 IsInOrder before now progress End = lines_at_end before ≡ []
 IsInOrder before now progress _ = lines_at_end now ≡ lines_at_end before
 
+-- in which bytes an answer was found: those that weren't handed out, and a line's own among them
+abbrev pub IsFoundIn : List ℕ → Progress → Result NextLine AllocError → Type 0
+IsFoundIn bytes progress (Ok next) = Moves bytes progress.held progress next
+IsFoundIn bytes progress (Err _) = progress.held ≡ bytes
+
+-- the source was read no further than for this answer: before the last piece came, no line was complete, nor too long for one
+pub record ReadsNoFurther (progress : Progress) (result : Result NextLine AllocError) : Type 0 where
+  pub before : List ℕ
+  pub piece : List ℕ
+  pub unfinished : IsOpen before
+  pub small : length piece ≤ longest_piece
+  pub found : IsFoundIn (before ++ piece) progress result
+
+-- the count of failed reads after an answer: a read that failed is answered, and so it is the last one
+abbrev pub faults_by : Result NextLine AllocError → ℕ → ℕ
+faults_by (Ok Fault) faults = one_more faults
+faults_by _ faults = faults
+
 -- all but the line handed out last is as it was
 pub record Keeps (old new : Progress) : Type 0 where
   pub held : new.held ≡ old.held
@@ -76,6 +100,7 @@ pub record AddsPiece (tells : Type 0) (old new : Progress) (left left_now : List
   pub room : ℕ
   pub added : ℕ
   pub piece : Appends tells old.held new.held left left_now room added
+  pub small : room ≤ longest_piece
   pub within : old.count + room ≤ longest_input
   pub count : new.count ≡ old.count + added
   pub ended : new.ended ≡ (added == 0)

@@ -1,8 +1,8 @@
-ghost use Rattle.std.specs.Prelude.{◌≡◌, ◌≢◌, ◌+◌, ◌<◌, ◌≤◌, [], ◌∷◌, true, false, length, take, drop, slice_index, IfOk, OnErr, MatchOption, Some};
-ghost use Rattle.px_source.specs.Source.{Rose};
+ghost use Rattle.std.specs.Prelude.{◌≡◌, ◌≢◌, ◌⊎◌, ◌+◌, ◌<◌, ◌≤◌, [], ◌∷◌, true, false, length, take, drop, slice_index, IfOk, OnErr, MatchOption, Some};
+ghost use Rattle.px_source.specs.Source.{Rose, faults_after};
 ghost use Rattle.px_script.specs.Feeds.{NoFeed};
 ghost use Rattle.px_script.specs.Lines.{complete_lines};
-ghost use Rattle.px_script.specs.Progress.{AddsPiece, HasCause, IsInOrder, IsOpen, IsReadable, Keeps, Moves, ahead, longest_input, nothing_read};
+ghost use Rattle.px_script.specs.Progress.{AddsPiece, HasCause, IsInOrder, IsOpen, IsReadable, Keeps, Moves, ReadsNoFurther, ahead, faults_by, longest_input, nothing_read};
 
 use crate::parse::LONGEST_LINE;
 use crate::window::Window;
@@ -74,9 +74,11 @@ impl Lines {
         }
     }
 
-    /// Finds the next line, and reads the source only while no complete line waits. The source is
-    /// the one that was read before, so that it is at its end where a read answered the end.
-    /// Neither a fault nor want of memory loses a byte: the call may be made again.
+    /// Finds the next line, and reads the source only while no complete line waits, nor more bytes
+    /// than a line may have: so at most one line and `PIECE` bytes are held. Each read may fail, and
+    /// the first one that does is answered. The source is the one that was read before, so that it is
+    /// at its end where a read answered the end. Neither a fault nor want of memory loses a byte: the
+    /// call may be made again.
     pub fn next<S: Source>(&mut self, source: &mut S) -> Result<NextLine, AllocError>
         requires { S.tells → self.old.ended ≡ true → S.left source.old ≡ [] }
         ensures cause { IfOk result (HasCause self.new) }
@@ -87,10 +89,12 @@ impl Lines {
         ensures within { self.new.count ≤ longest_input }
         ensures at_end { S.tells → self.new.ended ≡ true → S.left source.new ≡ [] }
         ensures waits { complete_lines self.old.held ≢ [] → source.new ≡ source.old }
+        ensures no_further { (source.new ≡ source.old) ⊎ ReadsNoFurther self.new result }
         ensures over { self.old.ended ≡ true → source.new ≡ source.old }
         ensures over_stays { self.old.ended ≡ true → self.new.ended ≡ true }
         ensures over_below { self.new.ended ≡ true → self.new.count < longest_input }
         ensures fault { IfOk result (λ next. next ≡ NextLine.Fault → Rose (S.faults source.old) (S.faults source.new)) }
+        ensures faults { S.faults source.new ≡ faults_by result (S.faults source.old) }
         ensures none_fell { S.faults source.old ≤ S.faults source.new }
     {
         match self.waiting() {
@@ -206,6 +210,8 @@ impl Lines {
         ensures over_below { self.new.ended ≡ true → self.new.count < longest_input }
         ensures at_end { S.tells → self.new.ended ≡ true → S.left source.new ≡ [] }
         ensures fault { IfOk result (λ next. next ≡ NextLine.Fault → Rose (S.faults source.old) (S.faults source.new)) }
+        ensures no_further { ReadsNoFurther self.new result }
+        ensures faults { S.faults source.new ≡ faults_by result (S.faults source.old) }
         ensures none_fell { S.faults source.old ≤ S.faults source.new }
     {
         'reads: loop {
@@ -230,6 +236,7 @@ impl Lines {
         ensures kept { IfOk result (λ read. OnErr read (Keeps self.old self.new)) }
         ensures untaken { S.tells → IfOk result (λ read. OnErr read (S.left source.new ≡ S.left source.old)) }
         ensures short { OnErr result (Keeps self.old self.new × (source.new ≡ source.old)) }
+        ensures faults { IfOk result (λ read. S.faults source.new ≡ faults_after read (S.faults source.old)) }
         ensures none_fell { S.faults source.old ≤ S.faults source.new }
     {
         self.window.consume(self.handed);

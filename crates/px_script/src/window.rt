@@ -1,5 +1,5 @@
 ghost use Rattle.std.specs.Prelude.{◌≡◌, ◌+◌, ◌-◌, ◌<◌, ◌≤◌, [], drop, take, length, slice_range, vec_len, IfOk, OnOk, OnErr};
-ghost use Rattle.px_source.specs.Source.{Rose};
+ghost use Rattle.px_source.specs.Source.{Rose, faults_after};
 ghost use Rattle.px_script.specs.Piece.{Appends};
 
 use px_source::{Source, SourceFault};
@@ -63,6 +63,7 @@ impl Window {
         ensures kept { IfOk result (λ read. OnErr read (self.new ≡ self.old)) }
         ensures untaken { S.tells → IfOk result (λ read. OnErr read (S.left source.new ≡ S.left source.old)) }
         ensures short { OnErr result ((self.new ≡ self.old) × (source.new ≡ source.old)) }
+        ensures faults { IfOk result (λ read. S.faults source.new ≡ faults_after read (S.faults source.old)) }
         ensures none_fell { S.faults source.old ≤ S.faults source.new }
     {
         let held = self.end - self.start;

@@ -1,4 +1,4 @@
-use Rattle.std.proofs.Common.{◌≡◌, ◌+◌, ℕ, List, Some, sym, ap, subst, ◌∙◌, arith}
+use Rattle.std.proofs.Common.{◌≡◌, ◌+◌, ℕ, List, Some, refl, sym, ap, subst, ◌∙◌, arith}
 use Rattle.px_site.proofs.Causes.{no_fall, then_none_fell}
 use Rattle.px_calls.specs.declared.call.Call.{Call}
 use Rattle.px_script.specs.Grammar.{command_line}
@@ -7,7 +7,7 @@ use Rattle.px_play.specs.Input.{script_of}
 use Rattle.px_play.specs.Reading.{IsRead}
 use Rattle.px_play.specs.Turns.{HasTurnEnd}
 use Rattle.px_play.proofs.Inputs.{few_calls, nothing_handed}
-use Rattle.px_play.proofs.Played.{ends_input, keeps_end, keeps_more, keeps_none, played_more, played_none, reading_ends, turn_ends, turn_input}
+use Rattle.px_play.proofs.Played.{ends_input, keeps_end, keeps_more, keeps_none, played_more, played_none, reading_ends, turn_ends, turn_faults, turn_input}
 use Rattle.px_play.proofs.playing.play.Goals as goal
 
 pub loop-answered-init : goal.loop-answered-init
@@ -19,10 +19,14 @@ loop-answered-init g c =
       whole = c.requires.whole;
       none_fell = no_fall;
       source_none_fell = omega arith;
+      source_faults = refl;
       read = λ tells. subst (λ (p : Progress). IsRead input p input 0) (sym c.new-lines.ensures) (nothing_handed input);
       played = λ tells tells_too m works. played_none state m (script_of input) old works;
       kept = λ tells tells_too m works told acks. keeps_none m (script_of input) told (state old.site) acks;
     }
+
+pub returns-in-Err-clause-input : goal.returns-in-Err-clause-input
+returns-in-Err-clause-input g c = λ tells. ends_input (c.in-Err.ensures.ends tells (g.S.Source.left c.args.source.now) (c.loop-answered.invariant.read tells))
 
 pub returns-in-Err-clause-plays : goal.returns-in-Err-clause-plays
 returns-in-Err-clause-plays g c = λ tells tells_too m works.
@@ -32,6 +36,10 @@ returns-in-Err-clause-plays g c = λ tells tells_too m works.
       few = few_calls read;
       played = c.loop-answered.invariant.played tells tells_too m works;
     })
+
+pub returns-in-Err-turn-clause-source_faults : goal.returns-in-Err-turn-clause-source_faults
+returns-in-Err-turn-clause-source_faults g c =
+    turn_faults c.line.result.now (c.loop-answered.answered + 1) c.in-Err-turn.status c.in-Err-turn.ensures.ends (g.S.Source.faults c.args.source.now) (g.S.Source.faults c.next_line.new.source) (c.in_default.ensures.no_fault ∙ c.loop-answered.invariant.source_faults)
 
 pub returns-in-Err-turn-clause-input : goal.returns-in-Err-turn-clause-input
 returns-in-Err-turn-clause-input g c = λ tells.
@@ -69,6 +77,7 @@ loop-answered-preserved g c =
       whole = said.whole;
       none_fell = then_none_fell known.none_fell said.none_fell;
       source_none_fell = omega (arith, known.source_none_fell, c.next_line.ensures.none_fell);
+      source_faults = c.in_default.ensures.no_fault ∙ known.source_faults;
       read = λ tells. (next tells).1;
       played = λ tells tells_too m works.
           let played = known.played tells tells_too m works in

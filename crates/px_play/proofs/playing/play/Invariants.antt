@@ -18,6 +18,7 @@ invariant-loop-answered g l =
       whole : l.core.error ≡ None;
       none_fell : NoneFell (g.W.Site.counts old.site) (g.W.Site.counts l.core.site);
       source_none_fell : g.S.Source.faults l.fn.source ≤ g.S.Source.faults l.source;
+      source_faults : g.S.Source.faults l.source ≡ g.S.Source.faults l.fn.source;
       read : g.S.Source.tells → IsRead input l.lines (g.S.Source.left l.source) l.answered;
       played : tells → g.S.Source.tells → (m : Machine) → WorksFor state old m → HasPlayed state m (script_of input) old l.core l.answered;
       kept : tells → g.S.Source.tells → (m : Machine) → WorksFor state old m → (told : List ℕ) → Acknowledges told m (state old.site)

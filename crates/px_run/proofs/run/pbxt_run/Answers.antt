@@ -1,5 +1,5 @@
 use Rattle.std.proofs.Common.{◌∙◌}
-use Rattle.px_run.proofs.Closed.{alone, dump_closed, make_closed, new_closed, only_closes, run_closed, same_closed}
+use Rattle.px_run.proofs.Closed.{alone, dump_closed, make_closed, new_closed, only_closes, run_closed, same_closed, taken_closed}
 use Rattle.px_run.proofs.Complete.{complete_dump, complete_make, complete_run}
 use Rattle.px_run.proofs.Counted.{later_cause, output_rose, then_no_fall}
 use Rattle.px_run.proofs.Ending.{acknowledged_closed}
@@ -20,6 +20,15 @@ returns-clause-runs g c t u is found is_found =
     (g.W.Site.state c.args.site.now) (g.W.Site.state c.carry_out_on-status.new.site) (g.W.Site.state c.tell_closing_line.new.site)
     (g.W.Site.counts c.args.site.now) (g.W.Site.counts c.carry_out_on-status.new.site) (g.W.Site.counts c.tell_closing_line.new.site) c.carry_out_on-status.result
     (c.carry_out_on-status.ensures.runs t u (c.of.ensures.command ∙ is) found is_found) (c.tell_closing_line.ensures.closes t) c.carry_out_on-status.ensures.none_fell c.tell_closing_line.ensures.none_fell
+    (output_rose c.of.result (g.W.Site.counts c.args.site.now) (g.W.Site.counts c.carry_out_on-status.new.site) (g.W.Site.counts c.tell_closing_line.new.site) (g.S.Source.faults c.args.source.now) (g.S.Source.faults c.carry_out_on-status.new.source)
+    c.carry_out_on-status.result c.carry_out_on-status.ensures.cause c.tell_closing_line.ensures.none_fell)
+
+pub returns-clause-taken : goal.returns-clause-taken
+returns-clause-taken g c t u is found is_found =
+    taken_closed found (g.S.Source.left c.args.source.now) (g.S.Source.left c.carry_out_on-status.new.source)
+    (g.W.Site.state c.args.site.now) (g.W.Site.state c.carry_out_on-status.new.site) (g.W.Site.state c.tell_closing_line.new.site)
+    (g.W.Site.counts c.args.site.now) (g.W.Site.counts c.carry_out_on-status.new.site) (g.W.Site.counts c.tell_closing_line.new.site) c.carry_out_on-status.result
+    (c.carry_out_on-status.ensures.runs t u (c.of.ensures.command ∙ is) found is_found) (c.tell_closing_line.ensures.closes t) c.carry_out_on-status.ensures.none_fell
     (output_rose c.of.result (g.W.Site.counts c.args.site.now) (g.W.Site.counts c.carry_out_on-status.new.site) (g.W.Site.counts c.tell_closing_line.new.site) (g.S.Source.faults c.args.source.now) (g.S.Source.faults c.carry_out_on-status.new.source)
     c.carry_out_on-status.result c.carry_out_on-status.ensures.cause c.tell_closing_line.ensures.none_fell)
 

@@ -3,8 +3,12 @@ use Rattle.px_site.specs.State.{State}
 use Rattle.px_standing.specs.Found.{machine_of}
 use Rattle.px_core.specs.Core.{frames_of}
 use Rattle.px_play.specs.Input.{script_of}
-use Rattle.px_run.proofs.Scripts.{line_moments, line_untold, script_moments, script_played, tells_opening}
+use Rattle.px_run.proofs.Scripts.{line_moments, line_untold, script_moments, script_played, tells_opening, untold_faults}
 use Rattle.px_run.proofs.run_script.play_opened.Goals as goal
+
+pub returns-in-Err-clause-read_faults : goal.returns-in-Err-clause-read_faults
+returns-in-Err-clause-read_faults g c =
+    untold_faults (g.W.Site.counts c.args.opened.now.core.site) (g.W.Site.counts c.tell.new.core.site) c.in-Err.status c.in-Err.ensures.cause (g.S.Source.faults c.args.source.now)
 
 pub returns-in-Err-clause-runs : goal.returns-in-Err-clause-runs
 returns-in-Err-clause-runs g c = λ tells source_tells found opens.

@@ -1,11 +1,12 @@
-use Rattle.std.proofs.Common.{subst, sym}
+use Rattle.std.proofs.Common.{◌≡◌, subst, sym}
 use Rattle.px_site.specs.State.{EachMoment}
 use Rattle.px_play.specs.Acknowledged.{KeepsAcknowledged}
+use Rattle.px_play.specs.Causes.{faults_by}
 use Rattle.px_play.specs.Input.{script_of}
 use Rattle.px_run.specs.Running.{machine_after}
 use Rattle.px_run.specs.Working.{RunsScript}
 use Rattle.px_run.proofs.Opening.{opened_whole}
-use Rattle.px_run.proofs.Scripts.{moments_behind, not_opened, opening_moments, run_behind}
+use Rattle.px_run.proofs.Scripts.{moments_behind, not_opened, opening_moments, run_behind, unopened_faults}
 use Rattle.px_run.proofs.run_script.run_script.Goals as goal
 
 pub returns-in-Ok-clause-refused : goal.returns-in-Ok-clause-refused
@@ -35,6 +36,11 @@ returns-in-Err-clause-runs g c = λ tells source_tells found is_found.
     let counts_now = g.W.Site.counts c.in-Err.refused.site in
     subst (RunsScript found input input before now counts counts_now) (sym c.from.ensures)
     (not_opened found input before now counts counts_now c.in-Err.refused.error (c.in-Err.ensures.sound tells found is_found) (c.in-Err.ensures.told tells))
+
+pub returns-in-Err-clause-read_faults : goal.returns-in-Err-clause-read_faults
+returns-in-Err-clause-read_faults g c =
+    let faults = g.S.Source.faults c.args.source.now in
+    subst (λ status. faults ≡ faults_by status faults) (sym c.from.ensures) (unopened_faults c.in-Err.refused.error faults)
 
 pub returns-in-Err-clause-moments : goal.returns-in-Err-clause-moments
 returns-in-Err-clause-moments g c = λ tells source_tells found store.

@@ -7,6 +7,7 @@ invariant-reads g l = record {
   readable : IsReadable l.self;
   same : g.S.Source.tells → ahead l.self (g.S.Source.left l.source) ≡ ahead l.initial.self (g.S.Source.left l.initial.source);
   counted : g.S.Source.tells → l.self.count + length (g.S.Source.left l.source) ≡ l.initial.self.count + length (g.S.Source.left l.initial.source);
+  faults : g.S.Source.faults l.source ≡ g.S.Source.faults l.initial.source;
   none_fell : g.S.Source.faults l.initial.source ≤ g.S.Source.faults l.source;
 }
 

@@ -1,0 +1,121 @@
+-- What was opened of files is what is found in them.
+use Rattle.std.proofs.Common.{◌≡◌, ℕ, ◌+◌, ◌-◌, All, List, refl, sym, ap, subst, ◌∙◌, arith}
+use Rattle.px_beginning.specs.Found.{Reading}
+use Rattle.px_change.specs.declared.change.Change.{Change}
+use Rattle.px_laid.specs.Places.{Places, none_laid}
+use Rattle.px_life.specs.Front.{AreStored, HasStoredNumber, commits_by, done_by}
+use Rattle.px_model.specs.Machine.{fresh}
+use Rattle.px_opened.proofs.One.{IsSameRow, all_sound, same_row}
+use Rattle.px_opened.specs.Opened.{Opens, changes_over}
+use Rattle.px_restart.specs.Restart.{IsPicked}
+use Rattle.px_restart.specs.declared.restart.Restart.{Restart}
+use Rattle.px_shown.specs.Parts.{no_parts}
+use Rattle.px_shown.specs.Shown.{Shows}
+use Rattle.px_shown.specs.Tables.{Layouts, Tables}
+use Rattle.px_site.specs.State.{State}
+use Rattle.px_standing.specs.Standing.{Files, first_restart, second_restart}
+use Rattle.px_xlog.specs.Contents.{the_log}
+use Rattle.px_cell_opening.proofs.One.{one_scan}
+use Rattle.px_cell_opening.proofs.Standing.{Says, finds_by, is_beside, says_of}
+use Rattle.px_cell_opening.specs.Opened.{OpensAs}
+use Rattle.px_cell_opening.specs.Settled.{StandsFrom}
+use Rattle.px_cell_opening.specs.declared.opening.Cells.{Cells}
+use Rattle.px_cell_standing.proofs.One.{SameLayouts, SameShown, SameTables}
+use Rattle.px_cell_standing.specs.Found.{Found, IsFound, IsReadIn, found_in, machine_of}
+use Rattle.px_cell_standing.specs.Settled.{IsOneFile}
+use Rattle.px_cell_standing.specs.Standing.{StandsFor}
+use Rattle.px_cell_recovery.specs.Cells.{AreCellsOf}
+
+-- ---- what is used of the laws below
+
+abbrev pub OneFound : Type 0
+OneFound = (files : Files) (found other : Found) → IsFound found files → IsFound other files → found ≡ other
+
+abbrev pub FoundStands : Type 0
+FoundStands = (files : Files) (found : Found) → IsFound found files → StandsFor files found.commits found.rows
+
+-- ---- files in which something is found may be opened
+
+pub stands_from : FoundStands → (files : Files) (found : Found) (restart : Restart) → IsFound found files → IsOneFile files
+    → IsPicked (first_restart files) (second_restart files) restart → StandsFrom restart found.commits found.rows files
+stands_from stands files found restart is_found one picked =
+    let from = one.begins restart picked in
+    record {
+      stands = stands files found is_found;
+      picked = picked;
+      from_start = record { segment = from.segment; first = from.first; redo = from.redo };
+      others = one.segments;
+      no_cells = one.cells;
+    }
+
+-- ---- two openings of the same places
+
+stored_alike : SameTables → SameLayouts → (short tables : ℕ) (places : Places) (a b : Tables) (of_a of_b : Layouts) → Opens short tables places a of_a → Opens short tables places b of_b
+    → AreStored a of_a → AreStored b of_b
+stored_alike tables_are layouts_are short tables places a b of_a of_b opens_a opens_b stored t row used =
+    let its : IsSameRow (a t) (b t) (of_a t) (of_b t) row =
+    same_row short (a t) (b t) (of_a t) (of_b t) row (all_sound short tables places a of_a opens_a t)
+    (tables_are short tables places a b of_a of_b t opens_a opens_b) (layouts_are short tables places a b of_a of_b t opens_a opens_b) used in
+    subst (All HasStoredNumber) its.slots (stored t row its.used)
+
+-- ---- what was opened can be read
+
+module _ (tables_are : SameTables) (layouts_are : SameLayouts) (shown : SameShown) (stands : FoundStands) (one : OneFound) (files : Files) (found : Found) (restart : Restart) (opened : Cells) (s : State)
+    (is_found : IsFound found files) (one_file : IsOneFile files) (picked : IsPicked (first_restart files) (second_restart files) restart) (opens : OpensAs restart (files the_log) opened s) where
+  from : StandsFrom restart found.commits found.rows files
+  from = stands_from stands files found restart is_found one_file picked
+
+  says : Says restart found.commits found.rows (files the_log)
+  says = says_of restart found.commits found.rows files from
+
+  same : says.changes ≡ opens.changes
+  same = one_scan restart (files the_log) says.changes opens.changes says.scan opens.scan
+
+  abbrev places : Places
+  places = changes_over none_laid opens.changes
+
+  says_opens : Opens restart.short restart.tables places says.found says.layouts
+  says_opens = subst (λ (changes : List Change). Opens restart.short restart.tables (changes_over none_laid changes) says.found says.layouts) same says.opens
+
+  shows : Shows no_parts opens.found opens.layouts (done_by restart opens.changes) found.rows
+  shows =
+      shown no_parts restart.short restart.tables places says.found opens.found says.layouts opens.layouts (done_by restart opens.changes) found.rows says_opens opens.opens
+      (subst (λ (changes : List Change). Shows no_parts says.found says.layouts (done_by restart changes) found.rows) same says.shows)
+
+  abbrev read : Reading
+  read = record { restart = restart; changes = opens.changes; found = opens.found; layouts = opens.layouts; rows = found.rows; next = opened.base + 1 }
+
+  reads : IsReadIn files read
+  reads = record {
+    finds =
+        finds_by restart files opens.changes opens.found opens.layouts (is_beside restart found.commits found.rows files from) opens.scan opens.opens
+        (stored_alike tables_are layouts_are restart.short restart.tables places says.found opens.found says.layouts opens.layouts says_opens opens.opens says.numbers);
+    shows = shows;
+    number = opens.next;
+  }
+
+  found_is : found ≡ found_in read
+  found_is = one files found (found_in read) is_found (record { read = read; reads = reads; is = refl })
+
+  first : restart.first ≡ 0
+  first = (one_file.begins restart picked).first
+
+  base_is : opened.base + 1 - 1 ≡ opened.base
+  base_is = omega arith
+
+  commits_are : found.commits ≡ commits_by restart opens.changes
+  commits_are = ap (λ (f : Found). f.commits) found_is
+
+  machine_is : machine_of found ≡ fresh restart.tables restart.short found.rows found.commits opened.base
+  machine_is =
+      ap machine_of found_is
+      ∙ ap (λ (base : ℕ). fresh restart.tables restart.short found.rows (commits_by restart opens.changes) base) base_is
+      ∙ ap (λ (commits : ℕ). fresh restart.tables restart.short found.rows commits opened.base) (sym commits_are)
+
+  pub are_cells : AreCellsOf found restart opened
+  are_cells = record {
+    machine = machine_is;
+    commits_are = commits_are ∙ sym opens.commits_are;
+    redone_are = omega (arith, ap (λ (f : Found). f.redone) found_is, first, opens.redone_are);
+    frames = omega (arith, ap (λ (f : Found). f.frames) found_is, first, opens.frames);
+  }

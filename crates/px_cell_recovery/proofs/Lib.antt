@@ -1,0 +1,15 @@
+pub mod Alike
+pub mod Begun
+pub mod Contents
+pub mod Counted
+pub mod Deciding
+pub mod Errors
+pub mod Found
+pub mod Fronts
+pub mod NewMoments
+pub mod NewStore
+pub mod Quiet
+pub mod Refusals
+pub mod Rows
+pub mod Settling
+pub mod Syncing

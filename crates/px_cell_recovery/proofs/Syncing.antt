@@ -1,0 +1,48 @@
+-- The restart files are synced, one after the other.
+use Rattle.std.proofs.Common.{ℕ, List, refl, sym, ap, subst, ◌∙◌, ◌≡◌, Result, Ok, Err, OnOk}
+use Rattle.px_site.specs.declared.name.FileName.{FileName}
+use Rattle.px_site.specs.declared.error.SiteError.{SiteError}
+use Rattle.px_site.specs.State.{State, EachMoment, Syncs, synced}
+use Rattle.px_site.proofs.Moments.{sync_moments}
+use Rattle.px_model.specs.declared.row.Row.{Row}
+use Rattle.px_standing.specs.Stored.{RestartsRest}
+use Rattle.px_cell_standing.specs.Images.{KeepsStanding}
+use Rattle.px_cell_standing.specs.Settled.{Settled}
+use Rattle.px_cell_recovery.specs.Making.{first_file, second_file}
+use Rattle.px_cell_recovery.specs.Opening.{TellsNothing}
+use Rattle.px_cell_recovery.proofs.Quiet.{quiet_then, standing_then}
+
+-- ---- what is used of the laws below
+
+abbrev pub SyncStands : Type 0
+SyncStands = (file : FileName) (a b : State) (result : Result (Unit {0}) SiteError) (commits : ℕ) (rows : List Row) → Settled a commits rows → Syncs file a b result
+    → EachMoment (KeepsStanding commits rows a.now) a b
+
+abbrev pub SyncSettles : Type 0
+SyncSettles = (file : FileName) (a b : State) (result : Result (Unit {0}) SiteError) (commits : ℕ) (rows : List Row) → Settled a commits rows → Syncs file a b result
+    → OnOk result (Settled b commits rows)
+
+-- ---- one file
+
+pub syncing_quiet : {T : Type 0} {file : FileName} {a b : State} {r : Result T SiteError} → Syncs file a b r → EachMoment (TellsNothing a.now) a b
+syncing_quiet syncs = sync_moments syncs (record { told = refl; telling = refl }) (record { told = refl; telling = refl })
+
+-- ---- both restart files
+
+module _ {a b c : State} {x : Unit {0}} {r : Result (Unit {0}) SiteError} (one : Syncs first_file a b (Ok x)) (two : Syncs second_file b c r) where
+  pub both_rest : OnOk r (RestartsRest c.now c.content)
+  both_rest = by_result r two.ok
+    where
+      by_result : (r : Result (Unit {0}) SiteError) → OnOk r (c ≡ synced second_file b) → OnOk r (RestartsRest c.now c.content)
+      by_result (Ok _) ok = subst (λ (s : State). RestartsRest s.now s.content) (sym (ok ∙ ap (synced second_file) one.ok)) (record { first = refl; second = refl })
+      by_result (Err _) ok = tt
+
+  pub both_settle : SyncSettles → (count : ℕ) (rows : List Row) → Settled a count rows → OnOk r (Settled c count rows)
+  both_settle settles count rows settled = settles second_file b c r count rows (settles first_file a b (Ok x) count rows settled one) two
+
+  pub both_stand : SyncStands → SyncSettles → (count : ℕ) (rows : List Row) → Settled a count rows → EachMoment (KeepsStanding count rows a.now) a c
+  both_stand stands settles count rows settled =
+      standing_then (stands first_file a b (Ok x) count rows settled one) (stands second_file b c r count rows (settles first_file a b (Ok x) count rows settled one) two)
+
+  pub both_quiet : EachMoment (TellsNothing a.now) a c
+  both_quiet = quiet_then (syncing_quiet one) (syncing_quiet two)

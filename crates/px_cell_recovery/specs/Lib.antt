@@ -1,0 +1,5 @@
+pub mod Cells
+pub mod Counting
+pub mod Errors
+pub mod Making
+pub mod Opening
