@@ -1,4 +1,4 @@
-use crate::core::{answer, kinds_in_log, new_core};
+use crate::making::{answer, kinds_in_log, new_core};
 use px_calls::{Call, Event};
 use px_cell_core::Core;
 use px_change::ChangeKind::{self, Commit, Put, Rollback};

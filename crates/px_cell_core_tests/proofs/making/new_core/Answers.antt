@@ -2,7 +2,7 @@ use Rattle.std.proofs.Common.{refl}
 use Rattle.px_held.proofs.Making.{made_sound}
 use Rattle.px_held.specs.Serving.{HeldTables}
 use Rattle.px_cell_core_tests.proofs.Made.{has_after, made_store}
-use Rattle.px_cell_core_tests.proofs.core.new_core.Goals as goal
+use Rattle.px_cell_core_tests.proofs.making.new_core.Goals as goal
 
 pub new-requires-3-clause-store : goal.new-requires-3-clause-store
 new-requires-3-clause-store c =
