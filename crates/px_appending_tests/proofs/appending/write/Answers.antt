@@ -15,5 +15,5 @@ append_version-requires-clause-store c =
     let has = old.1 in (
       old.0,
       still_store old.0 no_bytes _ c.args.held.now c.place_for.new.self c.args.log.now
-          (c.place_for.ensures.keeps tt old.0 (anywhere no_bytes _ c.args.held.now old.0 has.serves)) c.place_for.ensures.form has,
+          (c.place_for.ensures.keeps old.0 (anywhere no_bytes _ c.args.held.now old.0 has.serves)) c.place_for.ensures.form has,
     )
