@@ -1,4 +1,13 @@
-pub mod Rows
-pub mod Serving
-pub mod Working
+pub mod Appended
+pub mod Beginning
+pub mod Behind
+pub mod Closing
+pub mod Crashing
+pub mod Ending
+pub mod Finding
+pub mod Leaving
+pub mod Reading
+pub mod Still
+pub mod Telling
+pub mod Walking
 pub mod Writing

@@ -1,202 +1,341 @@
--- What a call adds to the log, as the machine knows it.
-use Rattle.std.proofs.Common.{◌≡◌, ◌≢◌, ℕ, ◌+◌, ◌^◌, ◌<◌, ◌≤◌, true, false, List, [], ◌∷◌, length, Option, Some, None, refl, sym, ap, subst, ◌∙◌, arith}
-use Rattle.std.proofs.lemmas.Bool.{and_parts, true≢false}
-use Rattle.std.proofs.lemmas.Option.{same_Some}
-use Rattle.px_site.specs.declared.error.Fault.TheVariants.{Write as WriteFault}
+-- A write: its version, and the frame of it.
+use Rattle.std.proofs.Common.{◌≡◌, ◌≢◌, ℕ, ◌≤◌, true, false, List, length, Some, None, Result, Ok, Err, refl, sym, ap, subst, ◌∙◌, inl, inr, arith}
+use Rattle.std.proofs.lemmas.Bool.{true≢false}
+use Rattle.px_active.proofs.Calls.{refused_leaves as refused_keeps}
+use Rattle.px_active.specs.Active.{IsActiveOf}
+use Rattle.px_active.specs.declared.active.Active.{Active}
+use Rattle.px_answers.specs.Writing.{reply_done}
+use Rattle.px_appending.specs.Versions.{FitsFields, MayBeAppended}
+use Rattle.px_calls.specs.declared.call.Call.{Call}
+use Rattle.px_calls.specs.declared.call.Call.TheVariants.{Commit, Delete, Insert, Update}
+use Rattle.px_calls.specs.declared.reply.Reply.{Reply}
+use Rattle.px_calls.specs.Steps.{is_refusal, open_of, reply_of, state_after}
+use Rattle.px_cell_laws.proofs.Placing.{write_written}
+use Rattle.px_cell_laws.proofs.Showing.{committed_shown}
+use Rattle.px_cell_laws.proofs.Writing.{put_alone, put_follows, put_holds, version_writes}
+use Rattle.px_cell_laws.specs.Locating.{AreWrittenAt, write_at}
+use Rattle.px_cell_laws.specs.Writing.{IsWriteBy}
+use Rattle.px_cells.specs.declared.header.Header.{Header}
+use Rattle.px_cells.specs.declared.slot.Slot.{Slot}
+use Rattle.px_chain.specs.Links.{IsStored}
+use Rattle.px_chain_laws.proofs.Keeping.{kept_call}
+use Rattle.px_chain_laws.specs.Writing.{write_of as write_by}
+use Rattle.px_held.specs.declared.error.HeldError.{HeldError}
+use Rattle.px_held.specs.declared.error.HeldError.TheVariants as held
+use Rattle.px_held.specs.declared.prepared.Prepared.{Prepared}
+use Rattle.px_held.specs.Errors.{HasReadCause}
+use Rattle.px_held.specs.Linking.{HasPlaceFor, IsReady, step_of}
+use Rattle.px_history.proofs.Holding.{change_held}
+use Rattle.px_history.specs.Fitting.{IsStoredNumber, PlacesFit}
+use Rattle.px_history.specs.Steps.{Step, after_step}
+use Rattle.px_log.specs.declared.error.LogError.{LogError}
+use Rattle.px_log.specs.declared.error.LogError.TheVariants as logs
+use Rattle.px_log.specs.Errors.{OnShortage}
+use Rattle.px_logged.proofs.Adding.{delete_adds, insert_adds, update_adds}
+use Rattle.px_logged.proofs.Grown.{others_keep_committed}
+use Rattle.px_logged.specs.Logged.{logged}
 use Rattle.px_model.specs.declared.machine.Open.{Open}
 use Rattle.px_model.specs.declared.write.Write.{Write}
-use Rattle.px_model.specs.declared.write.Write.TheVariants.{Put as PutRow, Delete as DeleteRow}
+use Rattle.px_model.specs.declared.write.Write.TheVariants.{Put, Delete as DeleteRow}
 use Rattle.px_model.specs.Machine.{Machine, commits}
-use Rattle.px_calls.specs.declared.call.Call.{Call}
-use Rattle.px_calls.specs.declared.call.Call.TheVariants.{Begin, Get, Hold, Fetch, Find, Scan, Insert, Update, Delete, Commit, Rollback}
-use Rattle.px_calls.specs.Steps.{open_of, is_refusal, reply_of, state_after, with_write}
-use Rattle.px_machine_laws.specs.Writers.{writer_of, last_write_of}
-use Rattle.px_machine_laws.proofs.Writers.{written_last, written_by, writer_some, writer_none}
-use Rattle.px_told.specs.declared.change.Change.{Change}
-use Rattle.px_told.specs.declared.change.Change.TheVariants.{Put, Commit as CommitChange, Rollback as RollbackChange}
-use Rattle.px_xlog.specs.Log.{Log}
-use Rattle.px_xlog.specs.Payload.{may_hold, may_hold_all}
-use Rattle.px_logged.specs.Fitting.{Fits}
-use Rattle.px_machine_laws.specs.Writers.{tag_of}
-use Rattle.px_logged.specs.Logged.{logged}
-use Rattle.px_logged.proofs.Adding.{begin_adds_nothing, get_adds_nothing, hold_adds_nothing, fetch_adds_nothing, find_adds_nothing, scan_adds_nothing, insert_has_one, insert_adds, insert_leaves, update_has_one, update_adds, update_leaves, delete_has_one, delete_adds, delete_leaves, commit_adds, empty_commit_adds_nothing, no_commit_adds_nothing, rollback_adds, empty_rollback_adds_nothing, no_rollback_adds_nothing}
-use Rattle.px_logged.proofs.Fitted.{adds_what_may_stand, fits_after}
-use Rattle.px_logged.proofs.Grown.{others_keep_committed, opening_stays}
-use Rattle.px_core.specs.Appending.{MayPut}
-use Rattle.px_core.specs.Core.{adds_nothing, is_write, MayMeet, UnlessEnd}
+use Rattle.px_model.specs.Rows.{key_written}
+use Rattle.px_recs.specs.Text.{SlotFits}
+use Rattle.px_shown.specs.Parts.{no_parts}
+use Rattle.px_shown.specs.Shown.{write_of}
+use Rattle.px_site.proofs.Causes.{no_fall}
+use Rattle.px_site.specs.Cause.{Counts}
+use Rattle.px_site.specs.declared.error.Fault.{Fault}
+use Rattle.px_site.specs.declared.error.Fault.TheVariants.{Read, Write as WriteFault}
+use Rattle.px_site.specs.State.{State}
+use Rattle.px_standing.specs.Images.{acked}
+use Rattle.px_tables.proofs.Prepared.{stored_version}
+use Rattle.px_tables.specs.Linking.{FitsSlot, bytes_of_key, version_of}
+use Rattle.px_working.proofs.Adding.{write_adds}
+use Rattle.px_working.proofs.Calling.{adds_follows, works_on}
+use Rattle.px_working.specs.Follows.{last_store, with_step}
+use Rattle.px_working.specs.Works.{Works}
+use Rattle.px_xacts.specs.declared.write.WriteAt.{WriteAt}
+use Rattle.px_xacts.specs.Transactions as xacts
+use Rattle.px_xacts.specs.Transactions.{Transactions}
+use Rattle.px_xacts_laws.specs.Mirrors.{key_at}
+use Rattle.px_core.specs.Core.{IsWell, MayMeet, UnlessEnd, is_write}
+use Rattle.px_core.specs.Errors.{of_held}
+use Rattle.px_core.specs.Serving.{Does, Finds, HasRoom, IsSmallWrite, MayPut, MeetsOwn, Serves}
+use Rattle.px_core.specs.Working.{CountsFor, CountsVersions, WorksFor}
+use Rattle.px_core.specs.declared.error.CoreError.{CoreError}
+use Rattle.px_core.specs.declared.error.CoreError.TheVariants.{OutOfMemory}
+use Rattle.px_core.specs.declared.state.Kept.{Kept}
+use Rattle.px_core.specs.declared.state.writing.Ready.{Ready}
+use Rattle.px_core.proofs.Appended.{FollowsBy, IsFramed}
+use Rattle.px_core.proofs.Behind.{does_behind}
+use Rattle.px_core.proofs.Ending.{unmoved}
+use Rattle.px_core.proofs.Leaving.{refused_leaves}
+use Rattle.px_core.proofs.Still.{Still, out_of_memory, read_refused, still_answered, still_well}
 
--- ---- calls by what they add
+-- ---- a version
 
-pub silent_adds_nothing : (m : Machine) (session : ℕ) (call : Call) → adds_nothing call ≡ true → logged m session call ≡ []
-silent_adds_nothing m session Begin silent = begin_adds_nothing m session
-silent_adds_nothing m session (Get table key) silent = get_adds_nothing m session table key
-silent_adds_nothing m session (Hold table key) silent = hold_adds_nothing m session table key
-silent_adds_nothing m session (Fetch ticket) silent = fetch_adds_nothing m session ticket
-silent_adds_nothing m session (Find table tag) silent = find_adds_nothing m session table tag
-silent_adds_nothing m session (Scan table) silent = scan_adds_nothing m session table
-silent_adds_nothing m session (Insert table key tag body) silent = absurd (true≢false (sym silent))
-silent_adds_nothing m session (Update table key tag body) silent = absurd (true≢false (sym silent))
-silent_adds_nothing m session (Delete table key) silent = absurd (true≢false (sym silent))
-silent_adds_nothing m session Commit silent = absurd (true≢false (sym silent))
-silent_adds_nothing m session Rollback silent = absurd (true≢false (sym silent))
+pub row_of_version : (xn next row : ℕ) (w : Write) → (version_of xn next row w).row ≡ row
+row_of_version xn next row (Put put) = refl
+row_of_version xn next row (DeleteRow table key) = refl
 
-pub silent_no_commit : (call : Call) → adds_nothing call ≡ true → call ≢ Commit
-silent_no_commit call silent same = true≢false (sym silent ∙ ap adds_nothing same)
+pub next_of_version : (xn next row : ℕ) (w : Write) → (version_of xn next row w).next ≡ next
+next_of_version xn next row (Put put) = refl
+next_of_version xn next row (DeleteRow table key) = refl
 
-pub silent_no_end : (P : Type 0) (call : Call) → adds_nothing call ≡ true → UnlessEnd call P
-silent_no_end P Begin silent = tt
-silent_no_end P (Get table key) silent = tt
-silent_no_end P (Hold table key) silent = tt
-silent_no_end P (Fetch ticket) silent = tt
-silent_no_end P (Find table tag) silent = tt
-silent_no_end P (Scan table) silent = tt
-silent_no_end P (Insert table key tag body) silent = tt
-silent_no_end P (Update table key tag body) silent = tt
-silent_no_end P (Delete table key) silent = tt
-silent_no_end P Commit silent = absurd (true≢false (sym silent))
-silent_no_end P Rollback silent = absurd (true≢false (sym silent))
+pub number_of_version : (xn next row : ℕ) (w : Write) → (version_of xn next row w).xn ≡ xn
+number_of_version xn next row (Put put) = refl
+number_of_version xn next row (DeleteRow table key) = refl
 
-pub rollback_no_commit : Rollback ≢ Commit
-rollback_no_commit same = absurd cc
+pub key_of_version : (xn next row : ℕ) (w : Write) → (version_of xn next row w).key ≡ bytes_of_key w
+key_of_version xn next row (Put put) = refl
+key_of_version xn next row (DeleteRow table key) = refl
 
-pub write_no_commit : (call : Call) → is_write call ≡ true → call ≢ Commit
-write_no_commit call writes same = true≢false (sym writes ∙ ap is_write same)
+pub key_is : (w : Write) → key_written w ≡ ((key_written w).0, bytes_of_key w)
+key_is (Put put) = refl
+key_is (DeleteRow table key) = refl
 
-pub write_no_end : (P : Type 0) (call : Call) → is_write call ≡ true → UnlessEnd call P
-write_no_end P Begin writes = tt
-write_no_end P (Get table key) writes = tt
-write_no_end P (Hold table key) writes = tt
-write_no_end P (Fetch ticket) writes = tt
-write_no_end P (Find table tag) writes = tt
-write_no_end P (Scan table) writes = tt
-write_no_end P (Insert table key tag body) writes = tt
-write_no_end P (Update table key tag body) writes = tt
-write_no_end P (Delete table key) writes = tt
-write_no_end P Commit writes = absurd (true≢false (sym writes))
-write_no_end P Rollback writes = absurd (true≢false (sym writes))
+-- a slot of a store has room for no more than the longest
+pub fits_longest : (short longest : ℕ) (w : Write) → short ≤ longest → FitsSlot short w → FitsSlot longest w
+fits_longest short longest (Put put) within fits = (fits.0, omega (arith, within, fits.1))
+fits_longest short longest (DeleteRow table key) within fits = fits
 
-pub write_meets : (call : Call) → is_write call ≡ true → MayMeet call WriteFault
-write_meets (Insert table key tag body) writes = refl
-write_meets (Update table key tag body) writes = refl
-write_meets (Delete table key) writes = refl
-write_meets Begin writes = absurd (true≢false (sym writes))
-write_meets (Get table key) writes = absurd (true≢false (sym writes))
-write_meets (Hold table key) writes = absurd (true≢false (sym writes))
-write_meets (Fetch ticket) writes = absurd (true≢false (sym writes))
-write_meets (Find table tag) writes = absurd (true≢false (sym writes))
-write_meets (Scan table) writes = absurd (true≢false (sym writes))
-write_meets Commit writes = absurd (true≢false (sym writes))
-write_meets Rollback writes = absurd (true≢false (sym writes))
+-- ---- the call
 
--- ---- a write that isn't refused
+pub done_answers : (call : Call) → IsSmallWrite call → is_refusal (reply_done call) ≡ false
+done_answers (Insert table key tag body) small = refl
+done_answers (Update table key tag body) small = refl
+done_answers (Delete table key) small = refl
+done_answers _ small = absurd small
 
-pub record WritesOne (m : Machine) (session : ℕ) (call : Call) : Type 0 where
-  pub xact : Open
-  pub write : Write
-  pub opened : open_of m session ≡ Some xact
-  pub adds : logged m session call ≡ Put (m.base + xact.number) write ∷ []
-  pub leaves : state_after m session call ≡ with_write m session write
+pub write_isnt_commit : (call : Call) → IsSmallWrite call → call ≢ Commit
+write_isnt_commit call small is = subst IsSmallWrite is small
 
-pub writes_one : (m : Machine) (session : ℕ) (call : Call) → is_write call ≡ true → is_refusal (reply_of m session call) ≡ false → WritesOne m session call
-writes_one m session (Insert table key tag body) writes done =
-    let one = insert_has_one m session table key tag body done in
-    record { xact = one.0; write = PutRow (record { table = table; key = key; tag = tag; body = body }); opened = one.1; adds = insert_adds m session one.0 table key tag body one.1 done; leaves = insert_leaves m session table key tag body done }
-writes_one m session (Update table key tag body) writes done =
-    let one = update_has_one m session table key tag body done in
-    record { xact = one.0; write = PutRow (record { table = table; key = key; tag = tag; body = body }); opened = one.1; adds = update_adds m session one.0 table key tag body one.1 done; leaves = update_leaves m session table key tag body done }
-writes_one m session (Delete table key) writes done =
-    let one = delete_has_one m session table key done in
-    record { xact = one.0; write = DeleteRow table key; opened = one.1; adds = delete_adds m session one.0 table key one.1 done; leaves = delete_leaves m session table key done }
-writes_one m session Begin writes done = absurd (true≢false (sym writes))
-writes_one m session (Get table key) writes done = absurd (true≢false (sym writes))
-writes_one m session (Hold table key) writes done = absurd (true≢false (sym writes))
-writes_one m session (Fetch ticket) writes done = absurd (true≢false (sym writes))
-writes_one m session (Find table tag) writes done = absurd (true≢false (sym writes))
-writes_one m session (Scan table) writes done = absurd (true≢false (sym writes))
-writes_one m session Commit writes done = absurd (true≢false (sym writes))
-writes_one m session Rollback writes done = absurd (true≢false (sym writes))
+pub write_logged : (m : Machine) (session : ℕ) (call : Call) (x : Open) → IsSmallWrite call → open_of m session ≡ Some x → is_refusal (reply_of m session call) ≡ false
+    → length (logged m session call) ≡ 1
+write_logged m session (Insert table key tag body) x small at done = ap length (insert_adds m session x table key tag body at done)
+write_logged m session (Update table key tag body) x small at done = ap length (update_adds m session x table key tag body at done)
+write_logged m session (Delete table key) x small at done = ap length (delete_adds m session x table key at done)
+write_logged m session _ x small at done = absurd small
 
-pub writer_is : (m next : Machine) (session : ℕ) (call : Call) (one : WritesOne m session call) → next ≡ state_after m session call → writer_of next session ≡ Some (m.base + one.xact.number)
-writer_is m next session call one is = ap (λ (n : Machine). writer_of n session) (is ∙ one.leaves) ∙ written_by m session one.write one.xact one.opened
+-- ---- what is prepared
 
-pub last_is : (m next : Machine) (session : ℕ) (call : Call) (one : WritesOne m session call) → next ≡ state_after m session call → last_write_of next session ≡ Some one.write
-last_is m next session call one is = ap (λ (n : Machine). last_write_of n session) (is ∙ one.leaves) ∙ written_last m session one.write one.xact one.opened
+pub put_header : (table : ℕ) (header : Header) (slot : Slot) (prepared : Prepared) → step_of prepared ≡ Step.put table header slot → prepared.linking.header ≡ header
+put_header table header slot prepared is = cc is
 
--- ---- what is added may stand
+pub put_slot : (table : ℕ) (header : Header) (slot : Slot) (prepared : Prepared) → step_of prepared ≡ Step.put table header slot → prepared.linking.slot ≡ slot
+put_slot table header slot prepared is = cc is
 
-one_may : (tables number : ℕ) (change : Change) → may_hold_all tables number (change ∷ []) ≡ true → may_hold tables number change ≡ true
-one_may tables number change held = (and_parts (may_hold tables number change) true held).0
+pub same_written : (a b : Write) (call : Call) → write_by call ≡ Some a → write_by call ≡ Some b → a ≡ b
+same_written a b call is other = some_same a b (sym is ∙ other)
+  where
+    some_same : (a b : Write) → Some a ≡ Some b → a ≡ b
+    some_same a b e = cc e
 
-pub added_may_stand : (m : Machine) (log : Log) (session : ℕ) (call : Call) (change : Change) → Fits m log → log.frames ≤ 2 ^ 48 → tag_of call < 2 ^ 32 → logged m session call ≡ change ∷ [] → may_hold log.tables log.frames change ≡ true
-added_may_stand m log session call change fits below tag adds =
-    one_may log.tables log.frames change (subst (λ (l : List Change). may_hold_all log.tables log.frames l ≡ true) adds (adds_what_may_stand m log session call fits (omega (arith, fits.commits, below)) tag))
+pub on_shortage : {P : Type 0} (error : LogError) → P → OnShortage error P
+on_shortage logs.OutOfMemory p = p
+on_shortage (logs.Fault fault) p = tt
+on_shortage (logs.LogFull frame) p = tt
 
-pub may_put : (m next : Machine) (log : Log) (session : ℕ) (call : Call) (one : WritesOne m session call) → next ≡ state_after m session call → Fits m log → log.frames ≤ 2 ^ 48 → tag_of call < 2 ^ 32 → MayPut session next log
-may_put m next log session call one is fits below tag xn write writer last =
-    let number : m.base + one.xact.number ≡ xn = same_Some _ _ (sym (writer_is m next session call one is) ∙ writer) in
-    let same : one.write ≡ write = same_Some _ _ (sym (last_is m next session call one is) ∙ last) in
-    subst (λ (w : Write). may_hold log.tables log.frames (Put xn w) ≡ true) same
-    (subst (λ (n : ℕ). may_hold log.tables log.frames (Put n one.write) ≡ true) number (added_may_stand m log session call (Put (m.base + one.xact.number) one.write) fits below tag one.adds))
+pub fits_written : {W : Type 0} (core : Kept W) (session : ℕ) (call : Call) (ready : Ready) (w : Write) → HasRoom core session call ready → write_by call ≡ Some w → FitsSlot core.held.short w
+fits_written core session call ready w room is = subst (FitsSlot core.held.short) (same_written room.write w call room.is is) room.fits
 
--- ---- a commit and a rollback
+pub header_fits : (header : Header) (prepared : Prepared) → prepared.linking.header ≡ header → FitsFields prepared → PlacesFit header
+header_fits header prepared is fits = subst PlacesFit is fits.places
 
-none_or_empty : (A : Type 0) (m : Machine) (session : ℕ) (slot : Option Open) → open_of m session ≡ slot → writer_of m session ≡ None → (open_of m session ≡ None → A) → ((x : Open) → open_of m session ≡ Some x → length x.writes ≡ 0 → A) → A
-none_or_empty A m session None is none without empty = without is
-none_or_empty A m session (Some x) is none without empty = empty x is (writer_none m session none x is)
+pub slot_fits : (slot : Slot) (prepared : Prepared) → prepared.linking.slot ≡ slot → FitsFields prepared → SlotFits slot
+slot_fits slot prepared is fits = subst SlotFits is fits.its_slot
 
-pub silent_commit : (m : Machine) (session : ℕ) → writer_of m session ≡ None → logged m session Commit ≡ []
-silent_commit m session none =
-    none_or_empty (logged m session Commit ≡ []) m session (open_of m session) refl none (no_commit_adds_nothing m session) (λ x is empty. empty_commit_adds_nothing m session x is empty)
+-- ---- the frame
 
-pub silent_rollback : (m : Machine) (session : ℕ) → writer_of m session ≡ None → logged m session Rollback ≡ []
-silent_rollback m session none =
-    none_or_empty (logged m session Rollback ≡ []) m session (open_of m session) refl none (no_rollback_adds_nothing m session) (λ x is empty. empty_rollback_adds_nothing m session x is empty)
+module _ {W : Type 0} (state : W → State) (session : ℕ) (call : Call) (ready : Ready) (old : Kept W) (w : Write) (slot : Slot)
+    (is : write_by call ≡ Some w) (small : IsSmallWrite call) (fits : FitsSlot old.held.short w) (well : IsWell state old)
+    (version : slot ≡ version_of ready.writer.stored ready.place.next ready.place.row w) where
+  abbrev its_table : ℕ
+  its_table = (key_written w).0
 
-pub commit_adds_one : (m : Machine) (session xn : ℕ) → writer_of m session ≡ Some xn → logged m session Commit ≡ CommitChange xn (commits m + 1) ∷ []
-commit_adds_one m session xn writer =
-    let x = writer_some m session xn writer in
-    commit_adds m session x.0 x.1 x.2 ∙ ap (λ (n : ℕ). CommitChange n (commits m + 1) ∷ []) (sym x.3)
+  version_row : slot.row ≡ ready.place.row
+  version_row = ap (λ (s : Slot). s.row) version ∙ row_of_version ready.writer.stored ready.place.next ready.place.row w
 
-pub rollback_adds_one : (m : Machine) (session xn : ℕ) → writer_of m session ≡ Some xn → logged m session Rollback ≡ RollbackChange xn ∷ []
-rollback_adds_one m session xn writer =
-    let x = writer_some m session xn writer in
-    rollback_adds m session x.0 x.1 x.2 ∙ ap (λ (n : ℕ). RollbackChange n ∷ []) (sym x.3)
+  version_next : slot.next ≡ ready.place.next
+  version_next = ap (λ (s : Slot). s.next) version ∙ next_of_version ready.writer.stored ready.place.next ready.place.row w
 
--- ---- the machine still fits
+  version_xn : slot.xn ≡ ready.writer.stored
+  version_xn = ap (λ (s : Slot). s.xn) version ∙ number_of_version ready.writer.stored ready.place.next ready.place.row w
 
-pub fits_still : (m next : Machine) (log : Log) (session : ℕ) (call : Call) → Fits m log → call ≢ Commit → next ≡ state_after m session call → Fits next log
-fits_still m next log session call fits other is =
-    let more : Log = record log { frames = log.frames + length (logged m session call) } in
-    let grown = fits_after m log more session call fits refl refl in
-    let kept = others_keep_committed m session call other in
-    subst (λ (n : Machine). Fits n log) (sym is) (record {
-      tables = grown.tables;
-      few = grown.few;
-      short = grown.short;
-      numbers = grown.numbers;
-      begun = grown.begun;
-      commits = omega (arith, kept.commits, fits.commits);
-    })
+  version_key : slot.key ≡ bytes_of_key w
+  version_key = ap (λ (s : Slot). s.key) version ∙ key_of_version ready.writer.stored ready.place.next ready.place.row w
 
--- a write is taken back
-pub fits_back : (m next : Machine) (log later : Log) (session : ℕ) (call : Call) → Fits m log → Fits next later → call ≢ Commit → next ≡ state_after m session call → Fits m later
-fits_back m next log later session call fits grown other is =
-    let kept = others_keep_committed m session call other in
-    let stays = opening_stays m ((session, call) ∷ []) in
-    record {
-      tables = grown.tables ∙ ap (λ (n : Machine). n.tables) is ∙ stays.tables;
-      few = fits.few;
-      short = fits.short;
-      numbers = fits.numbers;
-      begun = fits.begun;
-      commits = omega (arith, kept.commits, ap commits is, grown.commits);
+  pub version_stored : IsStored old.held.short slot
+  version_stored = subst (IsStored old.held.short) (sym version)
+      (stored_version old.held.short ready.writer.stored ready.place.next ready.place.row w well.has.is_short fits)
+
+  -- it goes to its place, and who wrote it has a stored number
+  pub append_ready : HasRoom old session call ready → (table : ℕ) → table ≡ its_table → (prepared : Prepared) → step_of prepared ≡ Step.put table ready.place.header slot
+      → (HasPlaceFor old.held table slot.key ready.place → IsStored old.held.short slot → IsReady old.held prepared) → MayBeAppended old.held prepared
+  append_ready room table same prepared step is_ready =
+      let written = same_written room.write w call room.is is in
+      record {
+        ready = is_ready
+            (subst (λ (t : ℕ). HasPlaceFor old.held t slot.key ready.place) (sym same)
+            (subst (λ (key : List ℕ). HasPlaceFor old.held its_table key ready.place) (sym version_key)
+            (subst (λ (x : Write). HasPlaceFor old.held (key_written x).0 (bytes_of_key x) ready.place) written room.place)))
+            version_stored;
+        writer = subst IsStoredNumber (sym (ap (λ (s : Slot). s.xn) (put_slot table ready.place.header slot prepared step) ∙ version_xn)) room.stored;
+      }
+
+  pub key_taken : (at : WriteAt) → at ≡ record { table = its_table; row = slot.row; slot = ready.place.number; key = slot.key } → key_at at ≡ key_written w
+  key_taken at is_at = ap key_at is_at ∙ ap (λ (key : List ℕ). (its_table, key)) version_key ∙ sym (key_is w)
+
+  module _ (m : Machine) (works : WorksFor state old m) (may : MayPut m (last_store works.life) session call ready) where
+    short_is : old.held.short ≡ m.short
+    short_is = sym works.has.store.short ∙ works.has.short ∙ works.works.short
+
+    pub answered : is_refusal (reply_of m session call) ≡ false
+    answered = ap is_refusal may.done ∙ done_answers call small
+
+    pub is_write_by : IsWriteBy no_parts m (last_store works.life) session call its_table ready.place.header slot
+    is_write_by = record {
+      xact = may.xact;
+      is_open = may.is_open;
+      answered = answered;
+      write = is ∙ ap Some (sym (ap (write_of no_parts its_table) version ∙ version_writes no_parts ready.writer.stored ready.place.next ready.place.row w));
+      number = version_xn ∙ may.stored;
+      stored = subst (λ (short : ℕ). IsStored short slot) short_is version_stored;
+      link = (may.place w is).link slot (record { its_row = version_row; its_next = version_next; its_key = version_key });
     }
 
--- nothing was added, by whichever call
-pub fits_silent : (m next : Machine) (log : Log) (session : ℕ) (call : Call) → Fits m log → logged m session call ≡ [] → next ≡ state_after m session call → Fits next log
-fits_silent m next log session call fits none is =
-    subst (λ (n : Machine). Fits n log) (sym is) (fits_after m log log session call fits refl (omega (arith, ap length none)))
+    abbrev step : Step
+    step = Step.put its_table ready.place.header slot
 
-pub fits_one : (m next : Machine) (log later : Log) (session : ℕ) (call : Call) (change : Change) → Fits m log → logged m session call ≡ change ∷ [] → later.tables ≡ log.tables → later.frames ≡ log.frames + 1 → next ≡ state_after m session call → Fits next later
-fits_one m next log later session call change fits adds tables grown is =
-    subst (λ (n : Machine). Fits n later) (sym is) (fits_after m log later session call fits tables (omega (arith, ap length adds, grown)))
+    pub write_follows : PlacesFit ready.place.header → SlotFits slot → FollowsBy state session call old m works step
+    write_follows places its_slot =
+        adds_follows committed_shown change_held no_parts (acked m) m works.life works.restart works.marks (state old.site).now session call step works.has.lasts works.works
+        (write_adds put_follows put_alone put_holds kept_call no_parts m works.life works.restart session call its_table ready.place.header slot works.works is_write_by places its_slot)
+
+    pub write_goes : Works no_parts (state_after m session call) (with_step works.restart.short works.life step) works.restart
+    write_goes =
+        works_on no_parts (acked m) m works.life works.restart works.marks (state old.site).now session call step works.has.lasts works.works
+        (put_holds no_parts m (last_store works.life) session call its_table ready.place.header slot works.works.holds works.works.kept is_write_by)
+        (kept_call m session call works.works.kept)
+
+    pub write_named : (at : WriteAt) (all : Transactions) → at ≡ record { table = its_table; row = slot.row; slot = ready.place.number; key = slot.key }
+        → all ≡ xacts.with_write old.active.xacts session at → AreWrittenAt all (after_step (last_store works.life) step)
+    write_named at all is_at noted =
+        let there : at ≡ write_at (last_store works.life) its_table slot =
+        is_at ∙ ap (λ (n : ℕ). record { table = its_table; row = slot.row; slot = n; key = slot.key }) (may.place w is).its_number in
+        subst (λ (a : Transactions). AreWrittenAt a (after_step (last_store works.life) step))
+        (sym (noted ∙ ap (xacts.with_write old.active.xacts session) there))
+        (write_written no_parts m old.active.xacts (last_store works.life) session call its_table ready.place.header slot works.active.mirrors works.works.holds works.written_at is_write_by)
+
+    pub write_commits : commits (state_after m session call) ≡ commits m
+    write_commits = (others_keep_committed m session call (write_isnt_commit call small)).commits
+
+    pub write_framed : (reply : Reply) (new : Kept W) (at : WriteAt) → PlacesFit ready.place.header → SlotFits slot → reply ≡ reply_done call
+        → IsActiveOf (state_after m session call) new.active
+        → at ≡ record { table = its_table; row = slot.row; slot = ready.place.number; key = slot.key } → new.active.xacts ≡ xacts.with_write old.active.xacts session at
+        → IsFramed state session call old new step m works reply
+    write_framed reply new at places its_slot reply_is active is_at noted = record {
+      reply_is = reply_is ∙ sym may.done;
+      follows = write_follows places its_slot;
+      goes = write_goes;
+      active = active;
+      written = write_named at new.active.xacts is_at noted;
+      one = write_logged m session call may.xact small may.is_open answered;
+      one_version = tt;
+      writer = omega (arith, version_xn, may.stored, works.works.kept.numbered.open_ones.given session may.xact may.is_open);
+    }
+
+-- ---- before it
+
+pub counted_for : (call : Call) (m : Machine) → is_write call ≡ true → CountsFor call m → CountsVersions m
+counted_for (Insert table key tag body) m writes counts = counts
+counted_for (Update table key tag body) m writes counts = counts
+counted_for (Delete table key) m writes counts = counts
+counted_for _ m writes counts = absurd (true≢false (sym writes))
+
+pub write_reads : (call : Call) (fault : Fault) → is_write call ≡ true → fault ≡ Read → MayMeet call fault
+write_reads (Insert table key tag body) fault writes is = inl is
+write_reads (Update table key tag body) fault writes is = inl is
+write_reads (Delete table key) fault writes is = inl is
+write_reads _ fault writes is = absurd (true≢false (sym writes))
+
+pub small_meets : (call : Call) → IsSmallWrite call → MayMeet call WriteFault
+small_meets (Insert table key tag body) small = inr refl
+small_meets (Update table key tag body) small = inr refl
+small_meets (Delete table key) small = inr refl
+small_meets _ small = absurd small
+
+pub write_no_end : (call : Call) → is_write call ≡ true → (P : Type 0) → UnlessEnd call P
+write_no_end (Insert table key tag body) writes P = tt
+write_no_end (Update table key tag body) writes P = tt
+write_no_end (Delete table key) writes P = tt
+write_no_end _ writes P = absurd (true≢false (sym writes))
+
+pub small_no_end : (call : Call) → IsSmallWrite call → (P : Type 0) → UnlessEnd call P
+small_no_end (Insert table key tag body) small P = tt
+small_no_end (Update table key tag body) small P = tt
+small_no_end (Delete table key) small P = tt
+small_no_end _ small P = absurd small
+
+meets_own : (call : Call) (old new : Counts) (error : HeldError) → is_write call ≡ true → HasReadCause old new error → MeetsOwn call error
+meets_own call old new held.OutOfMemory writes cause = tt
+meets_own call old new (held.Fault fault) writes cause = write_reads call fault writes cause.0
+meets_own call old new (held.Damaged file place) writes cause = tt
+
+module _ {W : Type 0} (tells : Type 0) (state : W → State) (counts : W → Counts) (session : ℕ) (call : Call) (old mid : Kept W)
+    (writes : is_write call ≡ true) (well : IsWell state old) (whole : old.error ≡ None) where
+  finds_still : (result : Result (Result Ready Reply) HeldError) → Finds tells state counts session call old mid result → Still tells state old mid
+  finds_still result finds = record {
+    form = finds.reads.stays.form;
+    keeps = finds.reads.stays.keeps;
+    same = finds.reads.stays.same;
+    log = ap (λ (k : Kept W). k.log) finds.rest;
+    error = ap (λ (k : Kept W). k.error) finds.rest;
+  }
+
+  finds_same : (result : Result (Result Ready Reply) HeldError) → Finds tells state counts session call old mid result → mid.active ≡ old.active
+  finds_same result finds = ap (λ (k : Kept W). k.active) finds.rest
+
+  pub write_gives_up : (error : HeldError) → Finds tells state counts session call old mid (Err error) → Serves tells state counts session call old mid (Err (of_held error))
+  write_gives_up error finds =
+      let same = finds_same (Err error) finds in
+      read_refused tells state counts session call old mid (λ m works. CountsFor call m) (finds_still (Err error) finds) well whole (ap (λ (a : Active). a.commits) same)
+      finds.reads.stays.none_fell same (write_no_end call writes) error finds.reads.cause.fault
+      (meets_own call (counts old.site) (counts mid.site) error writes finds.reads.cause.fault)
+      (λ t m works. finds.reads.cause.sound t m.short (last_store works.life) works.has.store.serves works.works.holds.sound)
+
+  pub write_refused : (reply : Reply) → Finds tells state counts session call old mid (Ok (Err reply)) → Serves tells state counts session call old mid (Ok reply)
+  write_refused reply finds =
+      let same = finds_same (Ok (Err reply)) finds in
+      still_answered tells state counts session call old mid (λ m works. CountsFor call m) (finds_still (Ok (Err reply)) finds) well whole
+      (ap (λ (a : Active). a.commits) same) finds.reads.stays.none_fell reply
+      (λ t m works holds.
+      let is = finds.refused t m works (counted_for call m writes holds) in
+      let refused : is_refusal (reply_of m session call) ≡ true = ap is_refusal (sym is) ∙ finds.refusal in
+      record {
+        reply_is = is;
+        leaves = refused_leaves m session call refused;
+        active = refused_keeps m mid.active session call (subst (IsActiveOf m) (sym same) works.active) refused;
+        written = subst (λ (a : Active). AreWrittenAt a.xacts (last_store works.life)) (sym same) works.written_at;
+      })
+
+  pub write_does : (ready : Ready) (new : Kept W) (result : Result Reply CoreError) → Finds tells state counts session call old mid (Ok (Ok ready))
+      → Does tells state counts session call mid new (λ m works. MayPut m (last_store works.life) session call ready) result
+      → Serves tells state counts session call old new result
+  write_does ready new result finds does =
+      does_behind tells state counts session call old mid new (finds_still (Ok (Ok ready)) finds) (finds_same (Ok (Ok ready)) finds) finds.reads.stays.none_fell
+      (λ m works. CountsFor call m) (λ m works. MayPut m (last_store works.life) session call ready) result
+      (λ t m works holds. finds.may t m works (counted_for call m writes holds)) does
+
+  pub write_well : (result : Result (Result Ready Reply) HeldError) → Finds tells state counts session call old mid result → IsWell state mid
+  write_well result finds =
+      still_well tells state old mid (finds_still result finds) (ap (λ (a : Active). a.commits) (finds_same result finds)) well
+
+-- ---- want of memory
+
+pub no_memory : {W : Type 0} (tells : Type 0) (state : W → State) (counts : W → Counts) (session : ℕ) (call : Call) (old : Kept W) (active : Active)
+    (Holds : (m : Machine) → WorksFor state old m → Type 0) → active ≡ old.active → IsWell state old → old.error ≡ None → IsSmallWrite call
+    → Does tells state counts session call old (record old { active = active }) Holds (Err OutOfMemory)
+no_memory tells state counts session call old active Holds same well whole small =
+    out_of_memory tells state counts session call old (record old { active = active }) Holds (unmoved tells state old active) well whole
+    (ap (λ (a : Active). a.commits) same) no_fall same (small_no_end call small _)

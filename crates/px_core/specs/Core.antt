@@ -1,28 +1,33 @@
--- What a core keeps, and its calls by what they do to the log.
-use Rattle.std.specs.Prelude.{◌≡◌, ◌⊎◌, ⊤, ℕ, ◌≤◌, Bool, true, false, Option, Some}
+-- When what a core keeps is sound, and its calls by what they do.
+use Rattle.std.specs.Prelude.{◌≡◌, ◌⊎◌, ⊤, ℕ, ◌≤◌, Bool, true, false, Some}
 use Rattle.px_site.specs.declared.error.Fault.{Fault}
-use Rattle.px_site.specs.declared.error.Fault.TheVariants.{Sync, Write}
-use Rattle.px_site.specs.declared.error.SiteError.{SiteError}
+use Rattle.px_site.specs.declared.error.Fault.TheVariants.{Read, Sync, Write}
 use Rattle.px_site.specs.Cause.{Counts, Rose}
-use Rattle.px_model.specs.Machine.{Machine}
+use Rattle.px_site.specs.State.{State}
 use Rattle.px_calls.specs.declared.call.Call.{Call}
 use Rattle.px_calls.specs.declared.call.Call.TheVariants.{Begin, Get, Hold, Fetch, Find, Scan, Insert, Update, Delete, Commit, Rollback}
-use Rattle.px_xlog.specs.Log.{Log, most_frames}
+use Rattle.px_history.specs.Store.{Store}
+use Rattle.px_log.specs.Log.{most_frames}
+use Rattle.px_tidying.specs.Opening.{HasStore, Opening, opening}
+use Rattle.px_core.specs.declared.state.Kept.{Kept}
 use Rattle.px_core.specs.declared.error.CoreError.{CoreError}
-use Rattle.px_core.specs.declared.error.CoreError.TheVariants.{OutOfMemory, Fault as FaultOf, LogFull, Broken}
+use Rattle.px_core.specs.declared.error.CoreError.TheVariants.{OutOfMemory, Fault as FaultOf, LogFull, Damaged, Broken}
 
-pub record Kept (W : Type 0) : Type 0 where
-  pub site : W
-  pub machine : Machine
-  pub log : Log
-  -- the error of an earlier call, after which the site may have what the machine doesn't
-  pub error : Option SiteError
+-- its site, its tables and its log
+abbrev pub opening_of : {W : Type 0} → (W → State) → Kept W → Opening
+opening_of state core = opening (state core.site) core.held core.log
+
+-- Whatever the site has: the tables are those of some store, the log takes its changes, and each commit has a frame.
+pub record IsWell {W : Type 0} (state : W → State) (core : Kept W) : Type 0 where
+  pub store : Store
+  pub has : HasStore store (opening_of state core)
+  pub few : core.active.commits ≤ core.log.frames
 
 -- the number of the next frame
 abbrev pub frames_of : {W : Type 0} → Kept W → ℕ
 frames_of core = core.log.frames
 
--- ---- calls by what they do to the log
+-- ---- calls by what they do to the cells and to the log
 
 abbrev pub adds_nothing : Call → Bool
 adds_nothing Begin = true
@@ -50,14 +55,19 @@ abbrev pub OnlyCommit : Call → Type 0 → Type 0
 OnlyCommit Commit P = P
 OnlyCommit _ P = ⊥
 
--- the faults that a call may meet; no call reads the files yet
+-- the faults that a call may meet
 abbrev pub MayMeet : Call → Fault → Type 0
+MayMeet Begin fault = ⊥
+MayMeet (Get table key) fault = fault ≡ Read
+MayMeet (Hold table key) fault = fault ≡ Read
+MayMeet (Fetch ticket) fault = ⊥
+MayMeet (Find table tag) fault = fault ≡ Read
+MayMeet (Scan table) fault = fault ≡ Read
+MayMeet (Insert table key tag body) fault = (fault ≡ Read) ⊎ (fault ≡ Write)
+MayMeet (Update table key tag body) fault = (fault ≡ Read) ⊎ (fault ≡ Write)
+MayMeet (Delete table key) fault = (fault ≡ Read) ⊎ (fault ≡ Write)
 MayMeet Commit fault = (fault ≡ Write) ⊎ (fault ≡ Sync)
 MayMeet Rollback fault = fault ≡ Write
-MayMeet (Insert table key tag body) fault = fault ≡ Write
-MayMeet (Update table key tag body) fault = fault ≡ Write
-MayMeet (Delete table key) fault = fault ≡ Write
-MayMeet _ fault = ⊥
 
 -- ---- why a call gives up
 
@@ -66,11 +76,13 @@ abbrev pub HasCallCause : {W : Type 0} → (W → Counts) → Call → Kept W �
 HasCallCause counts call old new OutOfMemory = UnlessEnd call (Rose (counts old.site).shorts (counts new.site).shorts)
 HasCallCause counts call old new (FaultOf fault) = MayMeet call fault × Rose ((counts old.site).faults fault) ((counts new.site).faults fault)
 HasCallCause counts call old new (LogFull n) = (n ≡ frames_of old) × (most_frames ≤ n)
+HasCallCause counts call old new (Damaged file place) = ⊤
 HasCallCause counts call old new (Broken error) = old.error ≡ Some error
 
--- the cause of an error of a call that only reads what is in memory
-abbrev pub HasReadCause : {W : Type 0} → Kept W → CoreError → Type 0
-HasReadCause old OutOfMemory = ⊤
-HasReadCause old (FaultOf fault) = ⊥
-HasReadCause old (LogFull n) = ⊥
-HasReadCause old (Broken error) = old.error ≡ Some error
+-- the cause of an error where the committed rows are asked for: a fault is one of a read, and was counted
+abbrev pub HasRowCause : {W : Type 0} → (W → Counts) → Kept W → Kept W → CoreError → Type 0
+HasRowCause counts old new OutOfMemory = ⊤
+HasRowCause counts old new (FaultOf fault) = (fault ≡ Read) × Rose ((counts old.site).faults Read) ((counts new.site).faults Read)
+HasRowCause counts old new (LogFull n) = ⊥
+HasRowCause counts old new (Damaged file place) = ⊤
+HasRowCause counts old new (Broken error) = old.error ≡ Some error

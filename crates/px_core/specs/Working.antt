@@ -1,39 +1,75 @@
 -- A core that works for a machine, and what a session's call does to it.
-use Rattle.std.specs.Prelude.{◌≡◌, ◌≢◌, ◌⊎◌, ℕ, ◌+◌, ◌-◌, ◌≤◌, List, [], length, Some, None}
+use Rattle.std.specs.Prelude.{◌≡◌, ◌≢◌, ◌⊎◌, ⊤, ℕ, ◌+◌, ◌≤◌, nat_le, true, [], length, Some, None}
+use Rattle.px_site.specs.declared.error.Fault.{Fault}
+use Rattle.px_site.specs.declared.error.Fault.TheVariants.{Read}
 use Rattle.px_site.specs.declared.error.SiteError.{SiteError}
 use Rattle.px_site.specs.declared.error.SiteError.TheVariants.{OutOfMemory as SiteShort, Fault as SiteFault}
 use Rattle.px_site.specs.State.{State, EachMoment}
 use Rattle.px_site.specs.Cause.{Counts, Rose}
 use Rattle.px_model.specs.Machine.{Machine, commits}
+use Rattle.px_model.specs.Rows.{in_order}
+use Rattle.px_model.specs.Chains.{variations_of_table}
+use Rattle.px_model.specs.declared.limits.TheConstants.{MOST_VARIATIONS}
 use Rattle.px_calls.specs.declared.call.Call.{Call}
+use Rattle.px_calls.specs.declared.call.Call.TheVariants.{Delete, Insert, Update}
 use Rattle.px_calls.specs.declared.reply.Reply.{Reply}
-use Rattle.px_calls.specs.Steps.{reply_of, state_after}
-use Rattle.px_told.specs.declared.change.Change.{Change}
-use Rattle.px_restart.specs.declared.restart.Restart.{Restart}
-use Rattle.px_xlog.specs.Log.{most_frames}
+use Rattle.px_calls.specs.Steps.{is_full, reply_of, state_after}
+use Rattle.px_active.specs.Active.{IsActiveOf}
+use Rattle.px_active.specs.declared.active.Active.{Active}
+use Rattle.px_cell_laws.specs.Locating.{AreWrittenAt}
+use Rattle.px_cell_standing.specs.Found.{CanBeFound}
+use Rattle.px_cell_standing.specs.Images.{StandsBetween}
+use Rattle.px_life.specs.Life.{Life}
+use Rattle.px_log.specs.Log.{most_frames}
 use Rattle.px_logged.specs.Logged.{logged}
-use Rattle.px_standing.specs.Standing.{base_after}
-use Rattle.px_standing.specs.Stored.{Stored}
-use Rattle.px_standing.specs.Images.{acked, StandsBetween}
-use Rattle.px_core.specs.Core.{Kept, HasCallCause, OnlyCommit, frames_of}
+use Rattle.px_reached.specs.Reachable.{Marks}
+use Rattle.px_restart.specs.declared.restart.Restart.{Restart}
+use Rattle.px_shown.specs.Parts.{no_parts}
+use Rattle.px_standing.specs.Images.{acked}
+use Rattle.px_tidying.specs.Opening.{HasLife, Opening}
+use Rattle.px_working.specs.Follows.{last_store}
+use Rattle.px_working.specs.Works.{Works}
+use Rattle.px_xacts.specs.Transactions as xacts
+use Rattle.px_core.specs.Core.{HasCallCause, OnlyCommit, frames_of, opening_of}
+use Rattle.px_core.specs.declared.state.Kept.{Kept}
 use Rattle.px_core.specs.declared.error.CoreError.{CoreError}
-use Rattle.px_core.specs.declared.error.CoreError.TheVariants.{OutOfMemory, Fault as FaultOf, LogFull, Broken}
+use Rattle.px_core.specs.declared.error.CoreError.TheVariants.{OutOfMemory, Fault as FaultOf, LogFull, Damaged, Broken}
 
--- the machine has the shape of the restart's store, and its numbers begin behind the restart's and no further than behind the log's
-pub record StartsFrom (restart : Restart) (changes : List Change) (m : Machine) : Type 0 where
-  pub tables : m.tables ≡ restart.tables
-  pub short : m.short ≡ restart.short
-  pub next : restart.next - 1 ≤ m.base
-  pub base : m.base ≤ base_after restart changes
-
--- the core works for the machine: it keeps no error, and its site has all that the machine did
+-- The core works for the machine: it keeps no error. A life of the machine's store lasts on its site, where each commit is durable, and
+-- the machine's chains lie in the cells of its last front. The sessions have what the machine's have, and each of their writes names its slot.
+-- What is left on the site can be found again.
 pub record WorksFor {W : Type 0} (state : W → State) (core : Kept W) (m : Machine) : Type 0 where
-  pub machine : core.machine ≡ m
   pub whole : core.error ≡ None
+  pub life : Life
   pub restart : Restart
-  pub changes : List Change
-  pub stored : Stored restart changes core.log m (state core.site)
-  pub starts : StartsFrom restart changes m
+  pub marks : Marks
+  pub order : in_order m.opening ≡ true
+  pub has : HasLife no_parts (acked m) m life restart marks (opening_of state core)
+  pub works : Works no_parts m life restart
+  pub active : IsActiveOf m core.active
+  pub written_at : AreWrittenAt core.active.xacts (last_store life)
+  pub found : CanBeFound m life restart (state core.site).now
+
+-- The machine may begin to work there: a life of its store lasts, in whose last front its chains lie, what is left on the site can be found
+-- again, and no session has begun.
+pub record MayBegin (m : Machine) (life : Life) (restart : Restart) (marks : Marks) (o : Opening) (active : Active) : Type 0 where
+  pub order : in_order m.opening ≡ true
+  pub has : HasLife no_parts (acked m) m life restart marks o
+  pub works : Works no_parts m life restart
+  pub found : CanBeFound m life restart o.site.now
+  pub active_is : IsActiveOf m active
+  pub fresh : active.xacts ≡ xacts.fresh m.base
+
+-- Until the machine counts the versions of a table itself: it is full where it has as many as it may.
+pub record CountsVersions (m : Machine) : Type 0 where
+  pub full : (t : ℕ) → is_full m t ≡ nat_le MOST_VARIATIONS (variations_of_table m t)
+
+-- only a write asks whether a table is full
+abbrev pub CountsFor : Call → Machine → Type 0
+CountsFor (Insert table key tag body) m = CountsVersions m
+CountsFor (Update table key tag body) m = CountsVersions m
+CountsFor (Delete table key) m = CountsVersions m
+CountsFor _ m = ⊤
 
 -- ---- a session's call
 
@@ -63,12 +99,18 @@ pub record AsBefore {W : Type 0} (tells : Type 0) (state : W → State) (old new
 abbrev pub Breaks : {W : Type 0} → SiteError → Kept W → Type 0
 Breaks error new = new.error ≡ Some error
 
+-- a read changes nothing; any other fault breaks the core
+abbrev pub LeavesAtFault : {W : Type 0} → Type 0 → (W → State) → Fault → Kept W → Kept W → Type 0
+LeavesAtFault tells state Read old new = AsBefore tells state old new
+LeavesAtFault tells state fault old new = Breaks (SiteFault fault) new
+
 -- the core is as before, or broken by a call that changes the site
 abbrev pub Leaves : {W : Type 0} → Type 0 → (W → State) → (W → Counts) → Call → Kept W → Kept W → CoreError → Type 0
 Leaves tells state counts call old new OutOfMemory =
     AsBefore tells state old new ⊎ OnlyCommit call (Breaks SiteShort new × Rose (counts old.site).shorts (counts new.site).shorts)
-Leaves tells state counts call old new (FaultOf fault) = Breaks (SiteFault fault) new
+Leaves tells state counts call old new (FaultOf fault) = LeavesAtFault tells state fault old new
 Leaves tells state counts call old new (LogFull n) = AsBefore tells state old new
+Leaves tells state counts call old new (Damaged file place) = AsBefore tells state old new
 Leaves tells state counts call old new (Broken error) = AsBefore tells state old new
 
 -- it gave up: what that leaves, and why

@@ -1,91 +1,88 @@
-ghost use Rattle.std.specs.Prelude.{◌≡◌, ◌^◌, ◌≤◌, None, Some, IfOk, IfErr, IsErrOf, option_copied};
+ghost use Rattle.std.specs.Prelude.{◌≡◌, ◌≤◌, None};
+ghost use Rattle.px_cell_standing.specs.Found.{HoldsStore};
+ghost use Rattle.px_history.specs.Store.{Store};
+ghost use Rattle.px_model.specs.Machine.{Machine};
 ghost use Rattle.px_site.specs.Cause.{TellCounted};
 ghost use Rattle.px_site.specs.State.{Tells};
-ghost use Rattle.px_site.specs.declared.error.SiteError.{SiteError};
-ghost use Rattle.px_model.specs.Machine.{Machine};
-ghost use Rattle.px_logged.specs.Fitting.{Fits};
-ghost use Rattle.px_logged.specs.Recounting.{rows_now};
-ghost use Rattle.px_standing.specs.Found.{HoldsStore};
-ghost use Rattle.px_core.specs.Core.{HasReadCause};
-ghost use Rattle.px_core.specs.Rows.{first_past, is_past};
-ghost use Rattle.px_core.specs.Working.{WorksFor};
+ghost use Rattle.px_tidying.specs.Opening.{HasStore, opening};
+ghost use Rattle.px_life.specs.Life.{Life};
+ghost use Rattle.px_reached.specs.Reachable.{Marks};
+ghost use Rattle.px_restart.specs.declared.restart.Restart.{Restart};
+ghost use Rattle.px_core.specs.Working.{MayBegin, WorksFor};
 
 mod calls;
+mod ending;
 mod logging;
+mod reading;
+mod rows;
+mod writing;
 
-use crate::CoreError;
-use px_model::{KeyOf, Row, RowList};
-use px_sessions::Sessions;
+use px_active::Active;
+use px_held::Held;
+use px_log::Xlog;
 use px_site::{Site, SiteError};
-use px_xlog::Xlog;
-use std::cmp::Ordering;
+use std::alloc::Global;
 use std::marker::Model;
 
-/// The state behind all session calls. It owns the site.
+/// What a core keeps.
+#[derive(Drop)]
+pub struct Kept<W: Site> {
+    pub alloc: Global,
+    pub site: W,
+    /// The rows, in cells.
+    pub held: Held,
+    /// What the sessions have in memory.
+    pub active: Active,
+    pub log: Xlog,
+    /// The error of an earlier call, after which the site may have what the machine doesn't.
+    pub error: Option<SiteError>,
+}
+
+/// The state behind all session calls. It owns the site. Contracts see what it keeps.
 ///
-/// A write appends its frame to the transaction log. A commit with writes appends one, syncs the log, and then answers; a
-/// rollback with writes appends one and syncs nothing. After an error by which the site may have what the machine doesn't,
-/// the core keeps that error and answers `Broken` from then on: the store is to be opened again. Every other error leaves
-/// the core as it was.
+/// A write appends its frame to the transaction log, and then lays its cells over the tables. A commit with writes appends one,
+/// syncs the log, and then answers; a rollback with writes appends one and syncs nothing. After an error by which the site may
+/// have what the machine doesn't, the core keeps that error and answers `Broken` from then on: the store is to be opened again.
+/// Every other error leaves the core as it was.
 #[derive(Drop)]
 pub struct Core<W: Site> {
-    site: W,
-    sessions: Sessions,
-    log: Xlog,
-    error: Option<SiteError>,
+    kept: Kept<W>,
 }
 
 impl<W: Site> Model for Core<W> {
-    ghost use Rattle.std.specs.Prelude.{◌^◌, ◌≤◌};
-    ghost use Rattle.px_core.specs.Core.{Kept};
-    ghost use Rattle.px_logged.specs.Fitting.{Fits};
+    ghost use Rattle.std.specs.Coded.{codes};
+    ghost use Rattle.px_locks.specs.Holders.{holders_code};
+    ghost use Rattle.px_core.specs.Core.{IsWell};
+    ghost use Rattle.px_core.specs.declared.state.Kept.{Kept};
 
     ghost Value = { Kept W };
 
-    ghost view = { λ c. record { site = c.site; machine = c.sessions; log = c.log; error = c.error } };
+    ghost coded = { Prim.hlevel (codes, holders_code) };
 
-    // What the calls add to the log may stand there.
-    ghost invariant = { λ c. Fits c.sessions c.log × (c.log.frames ≤ 2 ^ 48) };
+    ghost view = { λ c. c.kept };
+
+    // Whatever the site has.
+    ghost invariant = { λ c. IsWell W.state c.kept };
 }
 
 impl<W: Site> Core<W> {
-    /// The core of this machine, over a site that has this log.
-    pub fn new(site: W, machine: Sessions, log: Xlog) -> Core<W>
-        requires fits { Fits machine log }
-        requires numbered { log.frames ≤ 2 ^ 48 }
-        ensures { result ≡ record { site = site; machine = machine; log = log; error = None } }
+    /// The core of a store that was just opened, over its site, with its tables and its log, where the sessions have this.
+    pub fn new(alloc: Global, site: W, held: Held, active: Active, log: Xlog) -> Core<W>
+        requires store { (store : Store) × HasStore store (opening (W.state site) held log) }
+        requires few { active.commits ≤ log.frames }
+        ensures is { result ≡ record { alloc = alloc; site = site; held = held; active = active; log = log; error = None } }
+        ensures works { (m : Machine) (life : Life) (restart : Restart) (marks : Marks)
+            → MayBegin m life restart marks (opening (W.state site) held log) active → WorksFor W.state result m }
     {
         Core {
-            site,
-            sessions: machine,
-            log,
-            error: None,
-        }
-    }
-
-    /// The rows that are committed now, in order of table and key. Fails for want of memory, or where the core is broken.
-    pub fn rows(&self) -> Result<RowList, CoreError>
-        ensures rows { W.tells → (m : Machine) → WorksFor W.state self.now m → IfOk result (λ rows. rows ≡ rows_now m) }
-        ensures broken { (error : SiteError) → self.now.error ≡ Some error → IsErrOf result (CoreError.Broken error) }
-        ensures cause { IfErr result (HasReadCause self.now) }
-    {
-        if let Some(error) = self.error {
-            return Err(CoreError::Broken(error));
-        }
-        Ok(self.sessions.published(self.sessions.commits())?)
-    }
-
-    /// The first row past a key, in order of table and key, among those that are committed now; the first of all after
-    /// None. None exactly where there is none. Fails as `rows` does.
-    pub fn next_row(&self, after: Option<&KeyOf>) -> Result<Option<Row>, CoreError>
-        ensures row { W.tells → (m : Machine) → WorksFor W.state self.now m
-            → IfOk result (λ row. row ≡ first_past (option_copied after.entry) (rows_now m)) }
-        ensures broken { (error : SiteError) → self.now.error ≡ Some error → IsErrOf result (CoreError.Broken error) }
-        ensures cause { IfErr result (HasReadCause self.now) }
-    {
-        match first_past(self.rows()?.as_slice(), after) {
-            Some(row) => Ok(Some(row.copy()?)),
-            None => Ok(None),
+            kept: Kept {
+                alloc,
+                site,
+                held,
+                active,
+                log,
+                error: None,
+            },
         }
     }
 
@@ -93,7 +90,7 @@ impl<W: Site> Core<W> {
     pub fn kept(&self) -> Option<SiteError>
         ensures { result ≡ self.now.error }
     {
-        self.error
+        self.kept.error
     }
 
     /// The site, where no call is to follow. It is a settled store with all that the machine has committed.
@@ -101,7 +98,8 @@ impl<W: Site> Core<W> {
         ensures site { result ≡ self.site }
         ensures stored { W.tells → (m : Machine) → WorksFor W.state self m → HoldsStore m (W.state result) }
     {
-        let Core { site, .. } = self;
+        let Core { kept } = self;
+        let Kept { site, .. } = kept;
         site
     }
 
@@ -112,31 +110,6 @@ impl<W: Site> Core<W> {
         ensures works { W.tells → (m : Machine) → WorksFor W.state self.old m → WorksFor W.state self.new m }
         ensures counted { TellCounted (W.counts self.old.site) (W.counts self.new.site) result }
     {
-        self.site.tell(bytes)
-    }
-}
-
-fn first_past<'a>(rows: &'a [Row], after: Option<&KeyOf>) -> Option<&'a Row>
-    ensures { option_copied result ≡ first_past (option_copied after.entry) rows.now }
-{
-    for row in rows {
-        if is_past(after, row) {
-            return Some(row);
-        }
-    }
-    None
-}
-
-/// By table, and then by the key's bytes.
-#[tactic(auto, unfolding(px_model::specs::Rows::key_cmp))]
-fn is_past(after: Option<&KeyOf>, row: &Row) -> bool
-    ensures { result ≡ is_past (option_copied after.entry) row.now }
-{
-    match after {
-        Some(after) => {
-            let order = after.table.cmp(&row.table);
-            order.then(after.key.as_slice().cmp(row.key.as_slice())) == Ordering::Less
-        }
-        None => true,
+        self.kept.site.tell(bytes)
     }
 }

@@ -1,5 +1,5 @@
 -- While a store is made, a crash leaves no restart, or a store without commits and rows.
-use Rattle.std.proofs.Common.{◌≡◌, ◌⊎◌, ℕ, zero, suc, ◌≤◌, ◌<◌, Bool, true, false, cond, List, [], ◌∷◌, length, drop, get_or, refl, sym, ap, subst, ◌∙◌, inl, inr, arith, Result, Ok}
+use Rattle.std.proofs.Common.{◌≡◌, ◌⊎◌, ℕ, zero, suc, ◌-◌, ◌≤◌, ◌<◌, Bool, true, false, cond, List, [], ◌∷◌, length, drop, get_or, refl, sym, ap, subst, ◌∙◌, inl, inr, arith, Result, Ok}
 use Rattle.px_site.specs.declared.name.FileName.{FileName}
 use Rattle.px_site.specs.declared.error.SiteError.{SiteError}
 use Rattle.px_site.specs.Disk.{Change, Wrote, Cut, Removed, FileState, IsImage, overlaid, at_rest, pending_more, touches, touched, least, most}
@@ -9,6 +9,11 @@ use Rattle.px_site.proofs.Files.{stands, stands_changed, change_on_file, sync_on
 use Rattle.px_site.proofs.Images.{length-overlay, not_either, outside, overlay_other}
 use Rattle.px_site.proofs.Moments.{then_moments, weaker_moments}
 use Rattle.px_model.specs.declared.limits.TheConstants.{MOST_TABLES, SHORTEST_SHORT, LONGEST_SHORT}
+use Rattle.px_cells.specs.declared.cell.CellKind.{CellKind}
+use Rattle.px_cells.specs.declared.cell.CellKind.TheVariants as kind
+use Rattle.px_laid.specs.Places.{Places}
+use Rattle.px_opened.specs.Opened.{Opens, changes_over}
+use Rattle.px_recs.specs.Place.{table_file}
 use Rattle.px_restart.specs.declared.restart.Restart.{Restart}
 use Rattle.px_restart.specs.declared.text.TheConstants.{VERSION}
 use Rattle.px_restart.specs.Restart.{CanRestart, RestartAt, IsPicked, restart_text}
@@ -16,12 +21,15 @@ use Rattle.px_restart.proofs.Restarts.{one_restart}
 use Rattle.px_xlog.specs.Written.{HasAt, WasWritten, IsPlainLog}
 use Rattle.px_xlog.specs.Contents.{the_log}
 use Rattle.px_xlog.proofs.AtRest.{image_of_rest}
-use Rattle.px_standing.specs.Images.{IsPlainRestart, IsPlainImage, ImagesAreNew, CanMake}
-use Rattle.px_standing.specs.Settled.{Settled}
-use Rattle.px_standing.specs.Standing.{Files, StandsFor, HasNoRestart}
-use Rattle.px_recovery.specs.Making.{first_file, second_file, first_saved, with_restart, IsFree, IsWritten, WritesFirstFile, StaysNew}
+use Rattle.px_standing.specs.Images.{IsPlainRestart, IsPlainImage}
+use Rattle.px_cell_standing.specs.Images.{ImagesAreNew, CanMake}
+use Rattle.px_cell_standing.specs.Settled.{Settled}
+use Rattle.px_standing.specs.Standing.{Files, HasNoRestart}
+use Rattle.px_cell_standing.specs.Standing.{StandsFor}
+use Rattle.px_recovery.specs.Making.{first_file, second_file, first_saved, with_restart, IsFree, IsWritten, NewSettles, NewStands, WritesFirstFile, StaysNew}
+use Rattle.px_recovery.proofs.Alike.{last_alike, places_alike, scanned_alike}
 use Rattle.px_recovery.proofs.Deciding.{decide_restart}
-use Rattle.px_recovery.proofs.NewStore.{new_store, written_checks, other_image, no_second, no_log, made_settled}
+use Rattle.px_recovery.proofs.NewStore.{new_store, written_checks, other_image, no_second, has_nothing, made_settled}
 use Rattle.px_recovery.proofs.Fronts.{has_text, is_text}
 use Rattle.px_recovery.proofs.Quiet.{last_moment}
 
@@ -97,22 +105,36 @@ picked_alike a w b restart picked in_a in_w is = elim is as (λ _. IsPicked a b 
   | inr two ↦ inr (two.0, λ s at. two.1 s (subst (λ (r : Restart). RestartAt w r) (one_restart a restart s in_a at) in_w))
 ]
 
-stands_alike : (image : Files) (w : List ℕ) (restart : Restart) → RestartAt (image first_file) restart → RestartAt w restart → StandsFor (with_file first_file w image) 0 [] → StandsFor image 0 []
-stands_alike image w restart in_image in_w stands = record {
-  restart = stands.restart;
-  changes = stands.changes;
-  finds = record {
-    picked = picked_alike (image first_file) w (image second_file) restart stands.restart in_image in_w stands.finds.picked;
-    scanned = stands.finds.scanned;
-    held = stands.finds.held;
-    reached = stands.finds.reached;
-    counted = stands.finds.counted;
-  };
-  commits_are = stands.commits_are;
-  rows_are = stands.rows_are;
-}
+tables_apart : (image : Files) (w : List ℕ) (what : CellKind) (table : ℕ) → image (table_file what table) ≡ with_file first_file w image (table_file what table)
+tables_apart image w kind.Header table = refl
+tables_apart image w kind.Slot table = refl
+tables_apart image w kind.Pointer table = refl
 
-module _ (tables short : ℕ) (before : State) (can : CanMake before) (free : IsFree before.content) (bounds : CanRestart (first_saved tables short)) where
+stands_alike : (image : Files) (w : List ℕ) (restart : Restart) → RestartAt (image first_file) restart → RestartAt w restart → StandsFor (with_file first_file w image) 0 [] → StandsFor image 0 []
+stands_alike image w restart in_image in_w stands =
+    let swap : Files = with_file first_file w image in
+    let last = last_alike image swap (λ segment. refl) stands.restart in
+    record {
+      restart = stands.restart;
+      changes = stands.changes;
+      found = stands.found;
+      layouts = stands.layouts;
+      finds = record {
+        picked = picked_alike (image first_file) w (image second_file) restart stands.restart in_image in_w stands.finds.picked;
+        scanned = scanned_alike image swap (λ segment. refl) stands.restart ∙ stands.finds.scanned;
+        held = stands.finds.held;
+        reached = stands.finds.reached;
+        behind = λ segment past. stands.finds.behind segment (subst (λ (n : ℕ). n < segment) last past);
+        opens =
+            subst (λ (places : Places). Opens stands.restart.short stands.restart.tables (changes_over places (drop (stands.restart.redo - stands.restart.first) stands.changes)) stands.found stands.layouts)
+            (sym (places_alike stands.restart.short image swap (tables_apart image w))) stands.finds.opens;
+        numbers = stands.finds.numbers;
+      };
+      shows = stands.shows;
+      commits_are = stands.commits_are;
+    }
+
+module _ (stands : NewStands) (tables short : ℕ) (before : State) (can : CanMake before) (free : IsFree before.content) (bounds : CanRestart (first_saved tables short)) where
   swapped_image : (m : Moment) (image : Files) (w : List ℕ) → ((name : FileName) → same_file first_file name ≡ false → m.files name ≡ before.now.files name) → ((name : FileName) → IsImage (m.files name) (image name)) → IsImage (before.now.files first_file) w
       → (name : FileName) → IsImage (before.now.files name) (with_file first_file w image name)
   swapped_image m image w others each this name = by_name (same_file first_file name) refl
@@ -147,9 +169,9 @@ module _ (tables short : ℕ) (before : State) (can : CanMake before) (free : Is
       let first = first_saved tables short in
       let bytes = with_restart first content in
       let same : restart ≡ first = one_restart bytes restart first (is_text bytes restart at.can has) (written_checks first content bounds) in
-      let other = other_image before can free m image on.others plain.each in
-      new_store tables short image (subst (λ (r : Restart). RestartAt (image first_file) r) same at)
-      (no_second before can free (image second_file) (other second_file refl)) (other the_log refl ∙ no_log before can free)
+      let other = other_image before free can m image on.others plain.each in
+      new_store stands tables short image (subst (λ (r : Restart). RestartAt (image first_file) r) same at)
+      (no_second before free (image second_file) (other second_file refl)) (has_nothing before free image other)
 
   with_one : (m : Moment) (image : Files) (restart : Restart) → WritesFirstFile (first_saved tables short) before m → IsPlainImage m image → RestartAt (image first_file) restart → StandsFor image 0 []
   with_one m image restart on plain at = elim on.this.which as (λ _. StandsFor image 0 []) [
@@ -169,10 +191,10 @@ module _ (tables short : ℕ) (before : State) (can : CanMake before) (free : Is
 
   new_image : (m : Moment) (image : Files) → WritesFirstFile (first_saved tables short) before m → IsPlainImage m image → HasNoRestart image ⊎ StandsFor image 0 []
   new_image m image on plain =
-      let other = other_image before can free m image on.others plain.each in
+      let other = other_image before free can m image on.others plain.each in
       elim (decide_restart (image first_file)) as (λ _. HasNoRestart image ⊎ StandsFor image 0 []) [
         | inl one ↦ inr (with_one m image one.0 on plain one.1)
-        | inr none ↦ inl (record { first = none; second = no_second before can free (image second_file) (other second_file refl) })
+        | inr none ↦ inl (record { first = none; second = no_second before free (image second_file) (other second_file refl) })
       ]
 
   pub new_moments : {now : State} → EachMoment (WritesFirstFile (first_saved tables short) before) before now → EachMoment (StaysNew before.now) before now
@@ -186,17 +208,17 @@ first_bounds tables short tables_from tables_to short_from short_to = record {
   marks = record { commits_to = omega arith; low_from = omega arith; low_to = omega arith; next_to = omega arith; first_to = omega arith; redo_to = omega arith; durable_to = omega arith };
 }
 
-module _ (tables short : ℕ) (before middle now : State) (restart : Restart) (is_first : restart ≡ first_saved tables short) (still : middle ≡ before) (bounds : CanRestart (first_saved tables short)) (free : IsFree before.content) (can : CanMake before) where
+module _ (stands : NewStands) (tables short : ℕ) (before middle now : State) (restart : Restart) (is_first : restart ≡ first_saved tables short) (still : middle ≡ before) (bounds : CanRestart (first_saved tables short)) (free : IsFree before.content) (can : CanMake before) where
   pub make_moments : EachMoment (WritesFirstFile restart middle) middle now → EachMoment (StaysNew before.now) before now
   make_moments moments =
       let here = subst (λ (r : Restart). EachMoment (WritesFirstFile r middle) middle now) is_first moments in
-      new_moments tables short before can free bounds
+      new_moments stands tables short before can free bounds
       (subst (λ (s : State). EachMoment (WritesFirstFile (first_saved tables short) s) s now) still here)
 
-  pub make_settled : IsWritten restart middle now → ((name : FileName) → IsImage (now.now.files name) (now.content name)) → Settled now 0 []
-  make_settled written reads =
+  pub make_settled : NewSettles → IsWritten restart middle now → Settled now 0 []
+  make_settled settles written =
       let here = subst (λ (r : Restart). IsWritten r middle now) is_first written in
-      made_settled tables short before now can free bounds (subst (λ (s : State). IsWritten (first_saved tables short) s now) still here) reads
+      made_settled tables short before now can free bounds (subst (λ (s : State). IsWritten (first_saved tables short) s now) still here) settles
 
   -- after an error, where others' contents are as they were
   pub make_again : EachMoment (WritesFirstFile restart middle) middle now → ((name : FileName) → same_file first_file name ≡ false → now.content name ≡ middle.content name) → CanMake now

@@ -6,8 +6,8 @@ use Rattle.px_site.proofs.Moments.{then_moments, weaker_moments}
 use Rattle.px_site.specs.declared.name.FileName.{FileName}
 use Rattle.px_site.specs.Disk.{FileState}
 use Rattle.px_model.specs.declared.row.Row.{Row}
-use Rattle.px_standing.specs.Images.{KeepsStanding}
-use Rattle.px_standing.specs.Settled.{Settled}
+use Rattle.px_cell_standing.specs.Images.{KeepsStanding}
+use Rattle.px_cell_standing.specs.Settled.{Settled}
 use Rattle.px_recovery.specs.Opening.{TellsNothing}
 
 first_moment : (m n : Moment) (ms ns : List Moment) → m ∷ ms ≡ n ∷ ns → m ≡ n

@@ -1,23 +1,31 @@
 -- Why a store isn't made or opened, and what a refusal leaves.
-use Rattle.std.specs.Prelude.{◌≡◌, ◌≢◌, ◌⊎◌, ⊤}
+use Rattle.std.specs.Prelude.{◌≡◌, ◌≢◌, ◌≤◌, ◌⊎◌, ⊤, ℕ, List, false}
 use Rattle.px_site.specs.Cause.{Counts, Rose}
+use Rattle.px_site.specs.Names.{same_file}
 use Rattle.px_site.specs.State.{State}
+use Rattle.px_site.specs.declared.name.FileName.{FileName}
 use Rattle.px_site.specs.declared.error.Fault.TheVariants.{Read, Write, Sync, List as ListFault, Tell}
 use Rattle.px_site.specs.declared.error.SiteError.{SiteError}
 use Rattle.px_site.specs.declared.error.SiteError.TheVariants.{OutOfMemory as Short, Fault as Failed}
 use Rattle.px_calls.specs.declared.status.Status.{Status}
-use Rattle.px_calls.specs.declared.status.Status.TheVariants.{NoStore as StatusNone, NotEmpty as StatusUsed, Damaged as StatusDamaged, DiskFault, OutOfMemory as StatusShort}
+use Rattle.px_calls.specs.declared.status.Status.TheVariants.{NoStore as StatusNone, NotEmpty as StatusUsed, Damaged as StatusDamaged, DiskFault, LogFull as StatusFull, OutOfMemory as StatusShort}
+use Rattle.px_change.specs.declared.change.Change.{Change}
+use Rattle.px_held.specs.declared.error.HeldError.{HeldError}
+use Rattle.px_held.specs.declared.error.HeldError.TheVariants as held
+use Rattle.px_log.specs.Contents.{Scans, log_text}
+use Rattle.px_log.specs.Log.{most_frames}
 use Rattle.px_restart.specs.declared.restart.Restart.{Restart}
 use Rattle.px_restart.specs.Restart.{IsPicked}
-use Rattle.px_xlog.specs.declared.error.LogOpenError.{LogOpenError}
-use Rattle.px_xlog.specs.declared.error.LogOpenError.TheVariants.{OutOfMemory as LogShort, Fault as LogFailed, Damaged as LogDamaged}
-use Rattle.px_xlog.specs.Contents.{the_log, IsDamage}
-use Rattle.px_standing.specs.Standing.{Files, first_restart, second_restart, HasNoRestart}
+use Rattle.px_xlog.specs.Contents.{the_log}
+use Rattle.px_standing.specs.Standing.{Files, HasNoRestart, first_restart, second_restart}
+use Rattle.px_cell_opening.specs.Errors.{IsDamage}
+use Rattle.px_cell_opening.specs.declared.error.CellsError.{CellsError}
+use Rattle.px_cell_opening.specs.declared.error.CellsError.TheVariants as cells
 use Rattle.px_recovery.specs.Making.{IsFree}
 use Rattle.px_recovery.specs.declared.error.MakeError.{MakeError}
 use Rattle.px_recovery.specs.declared.error.MakeError.TheVariants.{OutOfMemory, Fault as FaultOf, NotEmpty}
 use Rattle.px_recovery.specs.declared.error.OpenError.{OpenError}
-use Rattle.px_recovery.specs.declared.error.OpenError.TheVariants.{OutOfMemory as OpenShort, Fault as OpenFault, NoStore, Damaged}
+use Rattle.px_recovery.specs.declared.error.OpenError.TheVariants.{OutOfMemory as OpenShort, Fault as OpenFault, NoStore, LogFull, Damaged}
 
 -- a fault is one of a file's
 abbrev pub IsOfFile : SiteError → Type 0
@@ -61,24 +69,37 @@ abbrev pub open_of_site : SiteError → OpenError
 open_of_site Short = OpenShort
 open_of_site (Failed fault) = OpenFault fault
 
-abbrev pub open_of_log : LogOpenError → OpenError
-open_of_log LogShort = OpenShort
-open_of_log (LogFailed fault) = OpenFault fault
-open_of_log (LogDamaged file place) = Damaged file place
+abbrev pub open_of_cells : CellsError → OpenError
+open_of_cells cells.OutOfMemory = OpenShort
+open_of_cells (cells.Fault fault) = OpenFault fault
+open_of_cells (cells.LogFull frame) = LogFull frame
+open_of_cells (cells.Damaged file place) = Damaged file place
+
+abbrev pub open_of_held : HeldError → OpenError
+open_of_held held.OutOfMemory = OpenShort
+open_of_held (held.Fault fault) = OpenFault fault
+open_of_held (held.Damaged file place) = Damaged file place
+
+-- the restart that counts, and the damage of the cells that it leads to
+pub record HasDamage (files : Files) (file : FileName) (place : ℕ) : Type 0 where
+  pub restart : Restart
+  pub picked : IsPicked (first_restart files) (second_restart files) restart
+  pub damage : IsDamage restart (files the_log) file place
 
 -- what a refusal says of the files
 abbrev pub HasRefusal : Files → OpenError → Type 0
 HasRefusal files OpenShort = ⊤
 HasRefusal files (OpenFault fault) = ⊤
 HasRefusal files NoStore = HasNoRestart files
-HasRefusal files (Damaged file place) =
-    (restart : Restart) × (file ≡ the_log) × IsPicked (first_restart files) (second_restart files) restart × IsDamage restart (files the_log) place
+HasRefusal files (LogFull frame) = ⊤
+HasRefusal files (Damaged file place) = HasDamage files file place
 
--- no refusal of what stands there: want of memory, or a fault of the site
+-- no refusal of what stands there: want of memory, a fault of the site, or no room in the log
 abbrev pub IsPassing : OpenError → Type 0
 IsPassing OpenShort = ⊤
 IsPassing (OpenFault fault) = ⊤
 IsPassing NoStore = ⊥
+IsPassing (LogFull frame) = ⊤
 IsPassing (Damaged file place) = ⊥
 
 -- where no store is: that is said, or memory was wanted, or a restart file couldn't be read
@@ -86,21 +107,32 @@ abbrev pub IsAbsence : OpenError → Type 0
 IsAbsence OpenShort = ⊤
 IsAbsence (OpenFault fault) = fault ≡ Read
 IsAbsence NoStore = ⊤
+IsAbsence (LogFull frame) = ⊥
 IsAbsence (Damaged file place) = ⊥
 
--- a fault is one of a file's, and was counted
+-- a fault is one of a file's, and was counted; where the log is full it takes no frame of that number
 abbrev pub CountsFault : Counts → Counts → OpenError → Type 0
 CountsFault old new OpenShort = ⊤
 CountsFault old new (OpenFault fault) = (fault ≢ Tell) × Rose (old.faults fault) (new.faults fault)
 CountsFault old new NoStore = ⊤
+CountsFault old new (LogFull frame) = most_frames ≤ frame
 CountsFault old new (Damaged file place) = ⊤
 
--- a site without a store is left as it was, and a damaged one with all contents as they were
+-- what was torn behind the log's last frame was cut, and no other file reads otherwise
+pub record IsCut (old new : State) : Type 0 where
+  pub restart : Restart
+  pub changes : List Change
+  pub scan : Scans restart (old.content the_log) changes
+  pub log : new.content the_log ≡ log_text changes
+  pub others : (name : FileName) → same_file the_log name ≡ false → new.content name ≡ old.content name
+
+-- a site without a store is left as it was, and a damaged one with all contents as they were, but for what was torn
 abbrev pub KeepsContent : State → State → OpenError → Type 0
 KeepsContent old new OpenShort = ⊤
 KeepsContent old new (OpenFault fault) = ⊤
 KeepsContent old new NoStore = new ≡ old
-KeepsContent old new (Damaged file place) = new.content ≡ old.content
+KeepsContent old new (LogFull frame) = ⊤
+KeepsContent old new (Damaged file place) = (new.content ≡ old.content) ⊎ IsCut old new
 
 -- ---- the status by which an error ends a run
 
@@ -113,4 +145,5 @@ abbrev pub status_of_opening : OpenError → Status
 status_of_opening OpenShort = StatusShort
 status_of_opening (OpenFault fault) = DiskFault fault
 status_of_opening NoStore = StatusNone
+status_of_opening (LogFull frame) = StatusFull frame
 status_of_opening (Damaged file place) = StatusDamaged file place

@@ -1,4 +1,5 @@
-pub mod Beginnings
+pub mod Cells
+pub mod Counting
 pub mod Errors
 pub mod Making
 pub mod Opening

@@ -7,9 +7,11 @@ use Rattle.px_site.specs.Disk.{Wrote, FileState, overlay, at_rest, pending_more}
 use Rattle.px_site.specs.State.{State, Moment, OnFile, Stands}
 use Rattle.px_restart.specs.declared.restart.Restart.{Restart}
 use Rattle.px_restart.specs.declared.text.TheConstants.{VERSION}
-use Rattle.px_restart.specs.Restart.{restart_text}
-use Rattle.px_standing.specs.Images.{ImagesAreNew}
-use Rattle.px_standing.specs.Standing.{Files, HasNoRestart}
+use Rattle.px_restart.specs.Restart.{IsPicked, restart_text}
+use Rattle.px_cell_standing.specs.Images.{ImagesAreNew}
+use Rattle.px_standing.specs.Standing.{Files, HasNoRestart, first_restart, second_restart}
+use Rattle.px_cell_standing.specs.Settled.{HasNothing, IsAtRest, Settled}
+use Rattle.px_cell_standing.specs.Standing.{StandsFor}
 
 abbrev pub first_file : FileName
 first_file = RestartFile 0
@@ -65,3 +67,17 @@ pub record StaysNew (before m : Moment) : Type 0 where
   pub images : ImagesAreNew m
   pub told : m.told ≡ before.told
   pub telling : m.telling ≡ []
+
+-- ---- why
+
+-- a restart that was just made, over files without a byte, stands for no commits and no rows
+abbrev pub NewStands : Type 0
+NewStands =
+    (files : Files) (restart : Restart) → IsPicked (first_restart files) (second_restart files) restart → restart.next ≡ 1 → restart.durable ≡ 0 → HasNothing files
+    → StandsFor files 0 []
+
+-- so it is settled, once all its bytes are on the disk
+abbrev pub NewSettles : Type 0
+NewSettles =
+    (s : State) (restart : Restart) → IsPicked (first_restart s.content) (second_restart s.content) restart → restart.next ≡ 1 → restart.durable ≡ 0 → restart.segment ≡ 1
+    → HasNothing s.content → IsAtRest s.content s → Settled s 0 []

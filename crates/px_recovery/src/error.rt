@@ -1,12 +1,11 @@
 // Why a store isn't made, or isn't opened.
 ghost use Rattle.std.specs.Prelude.{◌≡◌};
-ghost use Rattle.px_recovery.specs.Errors.{of_site, open_of_log, open_of_site, status_of_make, status_of_opening};
-ghost use Rattle.px_recovery.specs.declared.error.OpenError.TheVariants.{OutOfMemory};
+ghost use Rattle.px_recovery.specs.Errors.{of_site, open_of_cells, open_of_held, open_of_site, status_of_make, status_of_opening};
 
 use px_calls::Status;
+use px_cell_opening::CellsError;
+use px_held::HeldError;
 use px_site::{Fault, FileName, SiteError};
-use px_xlog::LogOpenError;
-use std::alloc::AllocError;
 use thiserror::Error;
 
 /// Why a store isn't made.
@@ -58,7 +57,10 @@ pub enum OpenError {
     /// Neither restart file checks: no store is here.
     #[error("no store is here")]
     NoStore,
-    /// What stands at this place of this file isn't what the store may have there.
+    /// The log takes no frame with this number, and a version that nobody will see has to be unlinked.
+    #[error("the log has no room for frame {0}")]
+    LogFull(u64),
+    /// What stands at this place of this file, in bytes, isn't what the store may have there.
     #[error("damaged at byte {place} of {file:?}")]
     Damaged { file: FileName, place: u64 },
 }
@@ -74,23 +76,28 @@ impl From<SiteError> for OpenError {
     }
 }
 
-impl From<LogOpenError> for OpenError {
-    ghost from_gives = { λ error e. e ≡ open_of_log error };
+impl From<CellsError> for OpenError {
+    ghost from_gives = { λ error e. e ≡ open_of_cells error };
 
-    fn from(error: LogOpenError) -> OpenError {
+    fn from(error: CellsError) -> OpenError {
         match error {
-            LogOpenError::OutOfMemory => OpenError::OutOfMemory,
-            LogOpenError::Fault(fault) => OpenError::Fault(fault),
-            LogOpenError::Damaged { file, place } => OpenError::Damaged { file, place },
+            CellsError::OutOfMemory => OpenError::OutOfMemory,
+            CellsError::Fault(fault) => OpenError::Fault(fault),
+            CellsError::LogFull(frame) => OpenError::LogFull(frame),
+            CellsError::Damaged { file, place } => OpenError::Damaged { file, place },
         }
     }
 }
 
-impl From<AllocError> for OpenError {
-    ghost from_gives = { λ _ e. e ≡ OutOfMemory };
+impl From<HeldError> for OpenError {
+    ghost from_gives = { λ error e. e ≡ open_of_held error };
 
-    fn from(_error: AllocError) -> OpenError {
-        OpenError::OutOfMemory
+    fn from(error: HeldError) -> OpenError {
+        match error {
+            HeldError::OutOfMemory => OpenError::OutOfMemory,
+            HeldError::Fault(fault) => OpenError::Fault(fault),
+            HeldError::Damaged { file, place } => OpenError::Damaged { file, place },
+        }
     }
 }
 
@@ -102,6 +109,7 @@ impl From<OpenError> for Status {
             OpenError::OutOfMemory => Status::OutOfMemory,
             OpenError::Fault(fault) => Status::DiskFault(fault),
             OpenError::NoStore => Status::NoStore,
+            OpenError::LogFull(frame) => Status::LogFull(frame),
             OpenError::Damaged { file, place } => Status::Damaged { file, place },
         }
     }

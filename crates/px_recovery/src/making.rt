@@ -5,13 +5,14 @@ ghost use Rattle.px_site.specs.Names.{same_file};
 ghost use Rattle.px_site.specs.State.{EachMoment};
 ghost use Rattle.px_site.specs.declared.name.FileName.{FileName};
 ghost use Rattle.px_restart.specs.Restart.{CanRestart};
-ghost use Rattle.px_standing.specs.Images.{CanMake};
-ghost use Rattle.px_standing.specs.Settled.{Settled};
+ghost use Rattle.px_cell_standing.specs.Images.{CanMake};
+ghost use Rattle.px_cell_standing.specs.Settled.{Settled};
 ghost use Rattle.px_recovery.specs.Errors.{HasMakeCause, IsOfChange, IsOfFile, LeavesUnmade, MakesFileFault};
 ghost use Rattle.px_recovery.specs.Making.{HasNoOthers, IsFree, IsMade, IsWritten, StaysNew, WritesFirstFile, first_file, first_saved, precedes};
 
 use crate::MakeError;
 use crate::restarts::{FIRST_RESTART, SECOND_RESTART, read_restart};
+use px_cell_standing::a_new_store_is_found;
 use px_model::{LONGEST_SHORT, MOST_TABLES, SHORTEST_SHORT};
 use px_restart::{Restart, restart_bytes};
 use px_site::{FileName, Site, SiteError};
@@ -38,6 +39,7 @@ pub fn make<W: Site>(site: &mut W, tables: u32, short: u32) -> Result<(), MakeEr
     ensures cause { IfErr result (HasMakeCause (W.counts site.old) (W.counts site.new)) }
     ensures own { IfErr result MakesFileFault }
 {
+    a_new_store_is_found();
     if !is_free(site)? {
         return Err(MakeError::NotEmpty);
     }

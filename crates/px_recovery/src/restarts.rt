@@ -4,13 +4,14 @@ ghost use Rattle.px_site.specs.Cause.{HasCause, IsOwn, NoneFell};
 ghost use Rattle.px_site.specs.State.{EachMoment};
 ghost use Rattle.px_model.specs.declared.row.Row.{Row};
 ghost use Rattle.px_restart.specs.Restart.{CanRestart, IsPicked};
-ghost use Rattle.px_standing.specs.Images.{KeepsStanding};
-ghost use Rattle.px_standing.specs.Settled.{Settled};
+ghost use Rattle.px_cell_standing.specs.Images.{KeepsStanding};
+ghost use Rattle.px_cell_standing.specs.Settled.{Settled};
 ghost use Rattle.px_standing.specs.Standing.{HasNoRestart, first_restart, second_restart};
 ghost use Rattle.px_standing.specs.Stored.{RestartsRest};
 ghost use Rattle.px_recovery.specs.Errors.{IsOfFile};
 ghost use Rattle.px_recovery.specs.Opening.{TellsNothing};
 
+use px_cell_standing::a_sync_leaves_what_stands;
 use px_restart::{RESTART_SIZE, Restart, pick};
 use px_site::{Fault, FileName, Site, SiteError};
 
@@ -51,6 +52,7 @@ pub(crate) fn sync_restarts<W: Site>(site: &mut W) -> Result<(), SiteError>
     ensures cause { IfErr result (HasCause (W.counts site.old) (W.counts site.new)) }
     ensures own { IfErr result IsOfFile }
 {
+    a_sync_leaves_what_stands();
     site.sync(FIRST_RESTART)?;
     site.sync(SECOND_RESTART)
 }

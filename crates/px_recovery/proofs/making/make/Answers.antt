@@ -6,26 +6,26 @@ use Rattle.px_recovery.proofs.making.make.Goals as goal
 
 pub returns-in_err-write_restart-clause-moments : goal.returns-in_err-write_restart-clause-moments
 returns-in_err-write_restart-clause-moments g c t can =
-    make_moments c.args.tables c.args.short (g.W.Site.state c.args.site.now) (g.W.Site.state c.is_free.new.site) (g.W.Site.state c.write_restart.new.site) c.first_restart.result c.first_restart.ensures (c.in_ok-is_free.ensures.same t)
+    make_moments c.a_new_store_is_found.ensures.stands c.args.tables c.args.short (g.W.Site.state c.args.site.now) (g.W.Site.state c.is_free.new.site) (g.W.Site.state c.write_restart.new.site) c.first_restart.result c.first_restart.ensures (c.in_ok-is_free.ensures.same t)
     (first_bounds c.args.tables c.args.short c.requires.tables_from c.requires.tables_to c.requires.short_from c.requires.short_to)
     ((c.in_ok-is_free.ensures.free t).0 c.if-not-branch.false) can (c.write_restart.ensures.moments t)
 
 pub returns-clause-settled : goal.returns-clause-settled
 returns-clause-settled g c t can =
-    make_settled c.args.tables c.args.short (g.W.Site.state c.args.site.now) (g.W.Site.state c.is_free.new.site) (g.W.Site.state c.write_restart.new.site) c.first_restart.result c.first_restart.ensures (c.in_ok-is_free.ensures.same t)
+    make_settled c.a_new_store_is_found.ensures.stands c.args.tables c.args.short (g.W.Site.state c.args.site.now) (g.W.Site.state c.is_free.new.site) (g.W.Site.state c.write_restart.new.site) c.first_restart.result c.first_restart.ensures (c.in_ok-is_free.ensures.same t)
     (first_bounds c.args.tables c.args.short c.requires.tables_from c.requires.tables_to c.requires.short_from c.requires.short_to)
-    ((c.in_ok-is_free.ensures.free t).0 c.if-not-branch.false) can (c.in_ok-write_restart.ensures.written t) (λ name. g.met.W.Site.reads_image t c.write_restart.new.site name)
+    ((c.in_ok-is_free.ensures.free t).0 c.if-not-branch.false) can c.a_new_store_is_found.ensures.settled (c.in_ok-write_restart.ensures.written t)
 
 pub returns-clause-moments : goal.returns-clause-moments
 returns-clause-moments g c t can =
-    make_moments c.args.tables c.args.short (g.W.Site.state c.args.site.now) (g.W.Site.state c.is_free.new.site) (g.W.Site.state c.write_restart.new.site) c.first_restart.result c.first_restart.ensures (c.in_ok-is_free.ensures.same t)
+    make_moments c.a_new_store_is_found.ensures.stands c.args.tables c.args.short (g.W.Site.state c.args.site.now) (g.W.Site.state c.is_free.new.site) (g.W.Site.state c.write_restart.new.site) c.first_restart.result c.first_restart.ensures (c.in_ok-is_free.ensures.same t)
     (first_bounds c.args.tables c.args.short c.requires.tables_from c.requires.tables_to c.requires.short_from c.requires.short_to)
     ((c.in_ok-is_free.ensures.free t).0 c.if-not-branch.false) can (c.write_restart.ensures.moments t)
 
 pub returns-in_err-write_restart-clause-again : goal.returns-in_err-write_restart-clause-again
 returns-in_err-write_restart-clause-again g c t can =
     on_err c.from_residual-in_err-write_restart.result
-    (make_again c.args.tables c.args.short (g.W.Site.state c.args.site.now) (g.W.Site.state c.is_free.new.site) (g.W.Site.state c.write_restart.new.site) c.first_restart.result c.first_restart.ensures (c.in_ok-is_free.ensures.same t)
+    (make_again c.a_new_store_is_found.ensures.stands c.args.tables c.args.short (g.W.Site.state c.args.site.now) (g.W.Site.state c.is_free.new.site) (g.W.Site.state c.write_restart.new.site) c.first_restart.result c.first_restart.ensures (c.in_ok-is_free.ensures.same t)
     (first_bounds c.args.tables c.args.short c.requires.tables_from c.requires.tables_to c.requires.short_from c.requires.short_to)
     ((c.in_ok-is_free.ensures.free t).0 c.if-not-branch.false) can (c.write_restart.ensures.moments t) (c.write_restart.ensures.others t))
 

@@ -1,4 +1,0 @@
-pub mod Core
-pub mod Errors
-pub mod Serving
-pub mod Working

@@ -1,5 +1,0 @@
-pub mod Cells
-pub mod Counting
-pub mod Errors
-pub mod Making
-pub mod Opening

@@ -1,6 +1,0 @@
-pub mod Freed
-pub mod Indexed
-pub mod Kept
-pub mod Newest
-pub mod Writers
-pub mod Writing
