@@ -1,10 +1,11 @@
 -- Why the cells of a store aren't opened, and what Damaged says of the log.
-use Rattle.std.specs.Prelude.{◌≡◌, ◌≢◌, ◌≤◌, ◌⊎◌, ⊤, ℕ, List}
+use Rattle.std.specs.Prelude.{◌≡◌, ◌≢◌, ◌+◌, ◌<◌, ◌≤◌, ◌⊎◌, ⊤, ℕ, List, length}
 use Rattle.px_change.specs.declared.change.Change.{Change}
+use Rattle.px_beginning.specs.Numbers.{IsNext}
 use Rattle.px_held.specs.declared.error.HeldError.{HeldError}
 use Rattle.px_held.specs.declared.error.HeldError.TheVariants as held
 use Rattle.px_laid.specs.Places.{none_laid}
-use Rattle.px_log.specs.Contents.{IsDamage as IsLogDamage, Scans, log_text}
+use Rattle.px_log.specs.Contents.{IsDamage as IsLogDamage, Scans}
 use Rattle.px_log.specs.Log.{most_frames}
 use Rattle.px_log.specs.declared.error.LogOpenError.{LogOpenError}
 use Rattle.px_log.specs.declared.error.LogOpenError.TheVariants as log
@@ -15,14 +16,14 @@ use Rattle.px_opened.specs.declared.error.OpenedError.TheVariants as opened
 use Rattle.px_restart.specs.declared.restart.Restart.{Restart}
 use Rattle.px_shown.specs.Tables.{Layouts, Tables}
 use Rattle.px_site.specs.Cause.{Counts, Rose}
-use Rattle.px_site.specs.Disk.{at_rest}
-use Rattle.px_site.specs.State.{Stands, State}
+use Rattle.px_site.specs.State.{State}
 use Rattle.px_site.specs.declared.error.Fault.TheVariants.{Tell}
 use Rattle.px_site.specs.declared.name.FileName.{FileName}
 use Rattle.px_tidying.specs.Numbers.{IsUnstoredIn}
 use Rattle.px_tidying.specs.declared.error.TidyError.{TidyError}
 use Rattle.px_tidying.specs.declared.error.TidyError.TheVariants as tidying
 use Rattle.px_xlog.specs.Contents.{the_log}
+use Rattle.px_cell_opening.specs.Opened.{store_of, tidied_count}
 use Rattle.px_cell_opening.specs.declared.error.CellsError.{CellsError}
 use Rattle.px_cell_opening.specs.declared.error.CellsError.TheVariants.{OutOfMemory, Fault, LogFull, Damaged}
 
@@ -96,24 +97,33 @@ pub record HasUnstored (restart : Restart) (bytes : List ℕ) (file : FileName) 
 abbrev pub IsDamage : Restart → (bytes : List ℕ) → FileName → (place : ℕ) → Type 0
 IsDamage restart bytes file place = IsDamagedLog restart bytes file place ⊎ (AreDamagedTables restart bytes file place ⊎ HasUnstored restart bytes file place)
 
+-- ---- no room
+
+-- A version is to be unlinked in a frame of this number, which the log doesn't take: it would be one of those behind the frames that were
+-- read, of which there are as many as versions that nobody will see.
+pub record HasNoRoom (restart : Restart) (bytes : List ℕ) (frame : ℕ) : Type 0 where
+  pub changes : List Change
+  pub scan : Scans restart bytes changes
+  pub found : Tables
+  pub layouts : Layouts
+  pub opens : Opens restart.short restart.tables (changes_over none_laid changes) found layouts
+  pub next : ℕ
+  pub is_next : IsNext restart changes found layouts next
+  pub none_left : most_frames ≤ frame
+  pub below : frame < length changes + tidied_count restart.tables (store_of restart changes next found layouts)
+
 -- what an error says of the log's bytes
 abbrev pub HasRefusal : Restart → (bytes : List ℕ) → CellsError → Type 0
 HasRefusal restart bytes OutOfMemory = ⊤
 HasRefusal restart bytes (Fault fault) = ⊤
-HasRefusal restart bytes (LogFull frame) = ⊤
+HasRefusal restart bytes (LogFull frame) = HasNoRoom restart bytes frame
 HasRefusal restart bytes (Damaged file place) = IsDamage restart bytes file place
 
 -- ---- what an error leaves
 
--- what is torn behind the log's last frame was cut, and nothing else changed
-pub record IsCut (restart : Restart) (old new : State) : Type 0 where
-  pub changes : List Change
-  pub scan : Scans restart (old.content the_log) changes
-  pub left : Stands the_log old (at_rest (log_text changes)) (log_text changes) new
-
--- damage leaves the files as they were, but for what is torn
-abbrev pub LeavesFiles : Restart → (old new : State) → CellsError → Type 0
-LeavesFiles restart old new OutOfMemory = ⊤
-LeavesFiles restart old new (Fault fault) = ⊤
-LeavesFiles restart old new (LogFull frame) = ⊤
-LeavesFiles restart old new (Damaged file place) = (new ≡ old) ⊎ IsCut restart old new
+-- a damaged store is left as it was
+abbrev pub LeavesDamaged : (old new : State) → CellsError → Type 0
+LeavesDamaged old new OutOfMemory = ⊤
+LeavesDamaged old new (Fault fault) = ⊤
+LeavesDamaged old new (LogFull frame) = ⊤
+LeavesDamaged old new (Damaged file place) = new ≡ old

@@ -6,7 +6,7 @@ use Rattle.px_history.specs.Steps.{after_steps}
 use Rattle.px_history.specs.Store.{Store}
 use Rattle.px_laid.specs.Places.{none_laid}
 use Rattle.px_life.specs.Found.{store_found}
-use Rattle.px_life.specs.Front.{commits_by, done_by}
+use Rattle.px_life.specs.Front.{AreStored, commits_by, done_by}
 use Rattle.px_life.specs.Life.{Life}
 use Rattle.px_log.specs.Contents.{Scans}
 use Rattle.px_model.specs.Machine.{Machine, fresh}
@@ -19,7 +19,11 @@ use Rattle.px_shown.specs.Tables.{Layouts, Tables}
 use Rattle.px_site.specs.State.{State}
 use Rattle.px_tidy.specs.Steps.{tidying_tables}
 use Rattle.px_tidying.specs.Opening.{HasLife, HasStore, opening}
+use Rattle.px_working.specs.Lasts.{IsValid}
 use Rattle.px_working.specs.Works.{Works}
+use Rattle.px_cell_standing.specs.Found.{CanBeFound}
+use Rattle.px_cell_standing.specs.Settled.{IsAlone}
+use Rattle.px_cell_standing.specs.Standing.{StandsFor}
 use Rattle.px_cell_opening.specs.declared.opening.Cells.{Cells}
 use Rattle.px_cell_opening.specs.declared.opening.Found.{Found}
 use Rattle.px_cell_opening.specs.Found.{HasFound}
@@ -46,11 +50,20 @@ pub record OpensAs (restart : Restart) (bytes : List ℕ) (cells : Cells) (s : S
   pub found : Tables
   pub layouts : Layouts
   pub opens : Opens restart.short restart.tables (changes_over none_laid changes) found layouts
+  pub stored : AreStored found layouts
   pub next : IsNext restart changes found layouts (cells.base + 1)
   pub has : HasStore (tidied_store restart.tables (store_of restart changes (cells.base + 1) found layouts)) (opening s cells.held cells.log)
   pub frames : cells.log.frames ≡ length changes + tidied_count restart.tables (store_of restart changes (cells.base + 1) found layouts)
   pub commits_are : cells.commits ≡ commits_by restart changes
   pub redone_are : cells.redone ≡ length changes - restart.redo
+
+-- ---- what may be opened
+
+-- This restart counts and is on the disk, and all that is read stands in one file, for these commits and rows.
+pub record MayOpen (restart : Restart) (commits : ℕ) (rows : List Row) (s : State) : Type 0 where
+  pub valid : IsValid restart s.now
+  pub alone : IsAlone s
+  pub stands : StandsFor s.content commits rows
 
 -- ---- that it goes on
 
@@ -59,13 +72,14 @@ abbrev pub machine_of : Restart → (commits : ℕ) → List Row → (base : ℕ
 machine_of restart commits rows base = fresh restart.tables restart.short rows commits base
 
 -- A life lasts on the site for the machine that starts with these rows and commits, which are all acknowledged, and the machine works in
--- its last front, whose tables and log these are.
+-- its last front, whose tables and log these are. What is left on the site can be found again.
 pub record WorksFrom (restart : Restart) (commits : ℕ) (rows : List Row) (s : State) (cells : Cells) : Type 0 where
   pub commits_are : cells.commits ≡ commits
   pub life : Life
   pub marks : Marks
   pub has : HasLife no_parts commits (machine_of restart commits rows cells.base) life restart marks (opening s cells.held cells.log)
   pub works : Works no_parts (machine_of restart commits rows cells.base) life restart
+  pub found : CanBeFound (machine_of restart commits rows cells.base) life restart s.now
   pub durable : cells.log.durable ≡ cells.log.frames
 
 -- ---- within the opening

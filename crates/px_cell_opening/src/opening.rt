@@ -47,41 +47,36 @@ pub struct Cells {
     pub redone: u64,
 }
 
-/// Opens the store of this restart, whose file is on the disk: its log is read and cut, the cells of all frames are laid over each other,
-/// the tables are read and surveyed, and what nobody will see is unlinked.
+/// Opens the store of this restart, whose file is on the disk: its log is read, the cells of all frames are laid over each other, the tables
+/// are read and surveyed, what is torn behind the log's last frame is cut, and what nobody will see is unlinked.
 ///
 /// Damaged where the log is, at the frame that holds no change or is missing; else at the first cell that its table can't have or that
-/// isn't sound; else at a version without a stored number. LogFull where a version has to be unlinked and the log takes no more frames.
-/// OutOfMemory where the opening itself or the site wants memory; a fault is one that a call of the site answered, and counted. After
-/// these three the store is as it was, but for what is torn and for versions that nobody will see: the opening may be tried again.
+/// isn't sound; else at a version without a stored number: the store is left as it was. LogFull where a version has to be unlinked and the
+/// log takes no frame with that number. OutOfMemory where the opening itself or the site wants memory; a fault is one that a call of the
+/// site answered, and counted. After these three the store is as it was, but for what is torn and for versions that nobody will see: the
+/// opening may be tried again.
 pub fn open_cells<W: Site>(
     alloc: Global,
     site: &mut W,
     restart: &Restart,
 ) -> Result<Cells, CellsError>
     requires bounds { CanRestart restart.now }
-    ensures opened { W.tells → (commits : ℕ) (rows : List Row) → Settled restart.now commits rows (W.state site.old)
+    ensures opened { W.tells → (commits : ℕ) (rows : List Row) → MayOpen restart.now commits rows (W.state site.old)
         → IfOk result (WorksFrom restart.now commits rows (W.state site.new)) }
-    ensures settled { W.tells → (commits : ℕ) (rows : List Row) → Settled restart.now commits rows (W.state site.old)
-        → OnOk result (Settled restart.now commits rows (W.state site.new)) }
-    ensures moments { W.tells → (commits : ℕ) (rows : List Row) → Settled restart.now commits rows (W.state site.old)
-        → EachMoment (KeepsStanding commits rows (W.state site.old).now) (W.state site.old) (W.state site.new) }
+    ensures moments { W.tells → (commits : ℕ) (rows : List Row) → MayOpen restart.now commits rows (W.state site.old)
+        → Settled (W.state site.old) commits rows → EachMoment (KeepsStanding commits rows (W.state site.old).now) (W.state site.old) (W.state site.new) }
     ensures report { W.tells → IfOk result (λ cells. OpensAs restart.now ((W.state site.old).content the_log) cells (W.state site.new)) }
     ensures store { IfOk result (λ cells. (store : Store) × HasStore store (opening (W.state site.new) cells.held cells.log)) }
     ensures base { IfOk result (λ cells. cells.base < STORED_NUMBERS_END) }
     ensures commits { IfOk result (λ cells. cells.commits ≤ cells.log.frames) }
-    ensures sound { W.tells → (commits : ℕ) (rows : List Row) → StandsFrom restart.now commits rows (W.state site.old).content → IfErr result IsPassing }
+    ensures sound { W.tells → (commits : ℕ) (rows : List Row) → MayOpen restart.now commits rows (W.state site.old) → IfErr result IsPassing }
     ensures refused { W.tells → IfErr result (HasRefusal restart.now ((W.state site.old).content the_log)) }
-    ensures kept { W.tells → IfErr result (LeavesFiles restart.now (W.state site.old) (W.state site.new)) }
+    ensures kept { W.tells → IfErr result (LeavesDamaged (W.state site.old) (W.state site.new)) }
     ensures log_alone { W.tells → EachMoment (OnFile the_log (W.state site.old).now (λ file. ⊤)) (W.state site.old) (W.state site.new) }
     ensures own { IfErr result IsFileFault }
     ensures cause { IfErr result (HasCellsCause (W.counts site.old) (W.counts site.new)) }
     ensures none_fell { NoneFell (W.counts site.old) (W.counts site.new) }
 {
-    what_was_found_rests();
-    a_cut_leaves_what_stands();
-    what_stands_has_no_damage();
-    what_was_opened_is_settled();
     let found = find_cells(alloc, site, restart)?;
     tidy_found(alloc, site, restart, found)
 }

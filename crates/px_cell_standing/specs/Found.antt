@@ -17,7 +17,7 @@ use Rattle.px_site.specs.State.{Moment, State}
 use Rattle.px_standing.specs.Standing.{Files}
 use Rattle.px_tidy.specs.Steps.{tidying_tables}
 use Rattle.px_working.specs.Follows.{last_store}
-use Rattle.px_cell_standing.specs.Settled.{HasEmptyTables, Settled}
+use Rattle.px_cell_standing.specs.Settled.{HasEmptyTables, IsAlone, Settled}
 
 pub record Found : Type 0 where
   pub tables : ℕ
@@ -69,6 +69,11 @@ pub record IsFound (found : Found) (files : Files) : Type 0 where
   pub read : Reading
   pub reads : IsReadIn files read
   pub is : found ≡ found_in read
+
+-- This is found on the site, settled or not: in what is read, which lies in one file.
+pub record IsFoundOn (found : Found) (s : State) : Type 0 where
+  pub is_found : IsFound found s.content
+  pub alone : IsAlone s
 
 -- the site stands for a store in which this is found, and so does whatever a crash now leaves of it
 pub record IsSettledStore (found : Found) (s : State) : Type 0 where

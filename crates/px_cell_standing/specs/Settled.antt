@@ -44,6 +44,12 @@ pub record KeepsOneFile (now : Moment) : Type 0 where
   pub segments : (segment : ℕ) → 2 ≤ segment → now.files (Xlog segment) ≡ at_rest []
   pub begins : (image : Files) → IsPlainImage now image → BeginsAtStart image
 
+-- What is read lies in one file, and no change of another one is pending, but of a restart file.
+pub record IsAlone (s : State) : Type 0 where
+  pub content : IsOneFile s.content
+  pub tables : HasEmptyTables s.now
+  pub segments : (segment : ℕ) → 2 ≤ segment → s.now.files (Xlog segment) ≡ at_rest []
+
 -- neither the log nor a table file has a byte, as in a store that was just made
 pub record HasNothing (files : Files) : Type 0 where
   pub frames : (segment : ℕ) → files (Xlog segment) ≡ []

@@ -22,9 +22,9 @@ ghost use Rattle.px_tidying.specs.Opening.{HasLife, Opening};
 ghost use Rattle.px_working.specs.Lasts.{IsValid, Lasts};
 ghost use Rattle.px_working.specs.Works.{Works};
 ghost use Rattle.px_xlog.specs.Contents.{the_log};
-ghost use Rattle.px_cell_standing.specs.Found.{CanBeFound, Found, HoldsStore, IsFound, IsReadIn, found_in, machine_of};
+ghost use Rattle.px_cell_standing.specs.Found.{CanBeFound, Found, HoldsStore, IsFound, IsFoundOn, IsReadIn, IsSettledStore, found_in, machine_of};
 ghost use Rattle.px_cell_standing.specs.Images.{ImagesStandFor, StandsBetween};
-ghost use Rattle.px_cell_standing.specs.Settled.{HasNothing, IsAtRest, IsOneFile, Settled};
+ghost use Rattle.px_cell_standing.specs.Settled.{HasNothing, IsAlone, IsAtRest, IsOneFile, Settled};
 ghost use Rattle.px_cell_standing.specs.Standing.{StandsFor};
 
 use px_beginning::without_cells_files_rest;
@@ -63,8 +63,10 @@ pub fn what_a_crash_leaves_is_settled()
         → IsAtRest image later → Settled later commits rows }
 {}
 
-/// On a settled site all frames stand in one file, as it reads and on the disk.
+/// On a settled site all frames stand in one file, as it reads and on the disk. What is found in a settled store is found on its site.
 pub fn a_settled_site_is_one_file()
+    ensures alone { (s : State) (commits : ℕ) (rows : List Row) → Settled s commits rows → IsAlone s }
+    ensures found { (s : State) (found : Found) → IsSettledStore found s → IsFoundOn found s }
     ensures content { (s : State) (commits : ℕ) (rows : List Row) → Settled s commits rows → IsOneFile s.content }
     ensures no_cells { (s : State) (commits : ℕ) (rows : List Row) → Settled s commits rows → HasNoCells s }
 {}

@@ -1,7 +1,6 @@
 -- Why a store isn't made or opened, and what a refusal leaves.
-use Rattle.std.specs.Prelude.{◌≡◌, ◌≢◌, ◌≤◌, ◌⊎◌, ⊤, ℕ, List, false}
+use Rattle.std.specs.Prelude.{◌≡◌, ◌≢◌, ◌<◌, ◌≤◌, ◌⊎◌, ⊤, ℕ}
 use Rattle.px_site.specs.Cause.{Counts, Rose}
-use Rattle.px_site.specs.Names.{same_file}
 use Rattle.px_site.specs.State.{State}
 use Rattle.px_site.specs.declared.name.FileName.{FileName}
 use Rattle.px_site.specs.declared.error.Fault.TheVariants.{Read, Write, Sync, List as ListFault, Tell}
@@ -9,16 +8,15 @@ use Rattle.px_site.specs.declared.error.SiteError.{SiteError}
 use Rattle.px_site.specs.declared.error.SiteError.TheVariants.{OutOfMemory as Short, Fault as Failed}
 use Rattle.px_calls.specs.declared.status.Status.{Status}
 use Rattle.px_calls.specs.declared.status.Status.TheVariants.{NoStore as StatusNone, NotEmpty as StatusUsed, Damaged as StatusDamaged, DiskFault, LogFull as StatusFull, OutOfMemory as StatusShort}
-use Rattle.px_change.specs.declared.change.Change.{Change}
 use Rattle.px_held.specs.declared.error.HeldError.{HeldError}
 use Rattle.px_held.specs.declared.error.HeldError.TheVariants as held
-use Rattle.px_log.specs.Contents.{Scans, log_text}
 use Rattle.px_log.specs.Log.{most_frames}
 use Rattle.px_restart.specs.declared.restart.Restart.{Restart}
 use Rattle.px_restart.specs.Restart.{IsPicked}
 use Rattle.px_xlog.specs.Contents.{the_log}
 use Rattle.px_standing.specs.Standing.{Files, HasNoRestart, first_restart, second_restart}
-use Rattle.px_cell_opening.specs.Errors.{IsDamage}
+use Rattle.px_cell_standing.specs.Found.{Found}
+use Rattle.px_cell_opening.specs.Errors.{HasNoRoom, IsDamage}
 use Rattle.px_cell_opening.specs.declared.error.CellsError.{CellsError}
 use Rattle.px_cell_opening.specs.declared.error.CellsError.TheVariants as cells
 use Rattle.px_recovery.specs.Making.{IsFree}
@@ -86,12 +84,18 @@ pub record HasDamage (files : Files) (file : FileName) (place : ℕ) : Type 0 wh
   pub picked : IsPicked (first_restart files) (second_restart files) restart
   pub damage : IsDamage restart (files the_log) file place
 
+-- the restart that counts, and that its log takes no frame of this number, in which a version is to be unlinked
+pub record HasNoRoomIn (files : Files) (frame : ℕ) : Type 0 where
+  pub restart : Restart
+  pub picked : IsPicked (first_restart files) (second_restart files) restart
+  pub no_room : HasNoRoom restart (files the_log) frame
+
 -- what a refusal says of the files
 abbrev pub HasRefusal : Files → OpenError → Type 0
 HasRefusal files OpenShort = ⊤
 HasRefusal files (OpenFault fault) = ⊤
 HasRefusal files NoStore = HasNoRestart files
-HasRefusal files (LogFull frame) = ⊤
+HasRefusal files (LogFull frame) = HasNoRoomIn files frame
 HasRefusal files (Damaged file place) = HasDamage files file place
 
 -- no refusal of what stands there: want of memory, a fault of the site, or no room in the log
@@ -118,21 +122,18 @@ CountsFault old new NoStore = ⊤
 CountsFault old new (LogFull frame) = most_frames ≤ frame
 CountsFault old new (Damaged file place) = ⊤
 
--- what was torn behind the log's last frame was cut, and no other file reads otherwise
-pub record IsCut (old new : State) : Type 0 where
-  pub restart : Restart
-  pub changes : List Change
-  pub scan : Scans restart (old.content the_log) changes
-  pub log : new.content the_log ≡ log_text changes
-  pub others : (name : FileName) → same_file the_log name ≡ false → new.content name ≡ old.content name
+-- at LogFull the log takes no frame of this number, and has one to take before all that nobody will see is unlinked
+abbrev pub FindsNoRoom : Found → OpenError → Type 0
+FindsNoRoom found (LogFull frame) = (most_frames ≤ frame) × (frame < found.frames)
+FindsNoRoom found _ = ⊤
 
--- a site without a store is left as it was, and a damaged one with all contents as they were, but for what was torn
+-- a site without a store is left as it was, and a damaged one with all contents as they were
 abbrev pub KeepsContent : State → State → OpenError → Type 0
 KeepsContent old new OpenShort = ⊤
 KeepsContent old new (OpenFault fault) = ⊤
 KeepsContent old new NoStore = new ≡ old
 KeepsContent old new (LogFull frame) = ⊤
-KeepsContent old new (Damaged file place) = (new.content ≡ old.content) ⊎ IsCut old new
+KeepsContent old new (Damaged file place) = new.content ≡ old.content
 
 -- ---- the status by which an error ends a run
 

@@ -1,11 +1,13 @@
 // Why a store isn't made, or isn't opened.
 ghost use Rattle.std.specs.Prelude.{◌≡◌};
+ghost use Rattle.px_recovery.specs.declared.error.OpenError.TheVariants.{OutOfMemory as OpenShort};
 ghost use Rattle.px_recovery.specs.Errors.{of_site, open_of_cells, open_of_held, open_of_site, status_of_make, status_of_opening};
 
 use px_calls::Status;
 use px_cell_opening::CellsError;
 use px_held::HeldError;
 use px_site::{Fault, FileName, SiteError};
+use std::alloc::AllocError;
 use thiserror::Error;
 
 /// Why a store isn't made.
@@ -73,6 +75,14 @@ impl From<SiteError> for OpenError {
             SiteError::OutOfMemory => OpenError::OutOfMemory,
             SiteError::Fault(fault) => OpenError::Fault(fault),
         }
+    }
+}
+
+impl From<AllocError> for OpenError {
+    ghost from_gives = { λ _ e. e ≡ OpenShort };
+
+    fn from(_error: AllocError) -> OpenError {
+        OpenError::OutOfMemory
     }
 }
 

@@ -1,6 +1,7 @@
-//! The beginning of a store whose rows lie in cells: it is made in an empty site, and its restart is found again.
+//! The beginning of a store whose rows lie in cells: it is made in an empty site, and opened again.
 //!
 //! - `making`: `make`, which makes a store without rows where there is none.
+//! - `opening`: `open_store`, which opens the store that a site stands for.
 //! - `counting`: how many rows a store has that was just opened.
 //! - `restarts`: which restart counts, as the two restart files read.
 //! - `laws`: files stand for one store at most; and what an opening begins with, and comes to.
@@ -15,8 +16,10 @@ mod counting;
 mod error;
 mod laws;
 mod making;
+mod opening;
 mod restarts;
 
 pub use error::{MakeError, OpenError};
 pub use laws::files_stand_for_one_store;
 pub use making::make;
+pub use opening::{NotOpened, OpenReport, Opened, open_store};

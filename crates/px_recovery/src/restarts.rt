@@ -5,7 +5,7 @@ ghost use Rattle.px_site.specs.State.{EachMoment};
 ghost use Rattle.px_model.specs.declared.row.Row.{Row};
 ghost use Rattle.px_restart.specs.Restart.{CanRestart, IsPicked};
 ghost use Rattle.px_cell_standing.specs.Images.{KeepsStanding};
-ghost use Rattle.px_cell_standing.specs.Settled.{Settled};
+ghost use Rattle.px_cell_standing.specs.Settled.{IsAlone, Settled};
 ghost use Rattle.px_standing.specs.Standing.{HasNoRestart, first_restart, second_restart};
 ghost use Rattle.px_standing.specs.Stored.{RestartsRest};
 ghost use Rattle.px_recovery.specs.Errors.{IsOfFile};
@@ -45,6 +45,7 @@ pub(crate) fn sync_restarts<W: Site>(site: &mut W) -> Result<(), SiteError>
     ensures content { W.tells → (W.state site.new).content ≡ (W.state site.old).content }
     ensures settled { W.tells → (commits : ℕ) (rows : List Row) → Settled (W.state site.old) commits rows
         → OnOk result (Settled (W.state site.new) commits rows) }
+    ensures alone { W.tells → IsAlone (W.state site.old) → OnOk result (IsAlone (W.state site.new)) }
     ensures standing { W.tells → (commits : ℕ) (rows : List Row) → Settled (W.state site.old) commits rows
         → EachMoment (KeepsStanding commits rows (W.state site.old).now) (W.state site.old) (W.state site.new) }
     ensures quiet { W.tells → EachMoment (TellsNothing (W.state site.old).now) (W.state site.old) (W.state site.new) }
