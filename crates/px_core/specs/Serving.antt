@@ -66,7 +66,7 @@ pub record Does {W : Type 0} (tells : Type 0) (state : W → State) (counts : W 
   pub others : tells → (m : Machine) → WorksFor state old m → EachMoment (LeavesOthers (state old.site).now) (state old.site) (state new.site)
   pub refused : IfErr result (Refuses tells state counts call old new)
   pub full : tells → (m : Machine) (works : WorksFor state old m) → Holds m works → IfErr result (FindsFull session call m old)
-  pub sound : tells → (m : Machine) → WorksFor state old m → IfErr result IsPassing
+  pub sound : tells → IfErr result IsPassing
   pub steady : OnOk result (new.error ≡ None)
   pub well : IsWell state new
   pub none_fell : NoneFell (counts old.site) (counts new.site)
@@ -123,6 +123,6 @@ pub record Walks {W : Type 0} (tells : Type 0) (state : W → State) (counts : W
   pub same : tells → state new.site ≡ state old.site
   pub works : tells → (m : Machine) → WorksFor state old m → WorksFor state new m
   pub cause : IfErr result (HasRowCause counts old new)
-  pub sound : tells → (m : Machine) → WorksFor state old m → IfErr result IsPassing
+  pub sound : tells → IfErr result IsPassing
   pub well : IsWell state new
   pub none_fell : NoneFell (counts old.site) (counts new.site)

@@ -26,7 +26,7 @@ impl<W: Site> Core<W> {
     /// - `Fault`: a read failed, which leaves the core as it was; or an append failed, or a commit's sync did, by which the core
     ///   is broken from then on.
     /// - `LogFull`: the call is no refusal and had a frame to append, for which the log has no number left.
-    /// - `Damaged`: a cell isn't what a store may have there. Never where the core works for a machine.
+    /// - `Damaged`: a cell isn't what a store may have there. Never on a site that tells its files: the opening has looked at them.
     /// - `Broken`: exactly where the core keeps an error of an earlier call.
     pub fn step(&mut self, session: Session, call: Call) -> Result<Reply, CoreError>
         ensures answered { W.tells → (m : Machine) → WorksFor W.state self.old m → CountsFor call m → IfOk result (Answers W.state session call m self.old self.new) }
@@ -35,7 +35,7 @@ impl<W: Site> Core<W> {
             → EachMoment (LeavesOthers (W.state self.old.site).now) (W.state self.old.site) (W.state self.new.site) }
         ensures refused { IfErr result (Refuses W.tells W.state W.counts call self.old self.new) }
         ensures full { W.tells → (m : Machine) → WorksFor W.state self.old m → CountsFor call m → IfErr result (FindsFull session call m self.old) }
-        ensures sound { W.tells → (m : Machine) → WorksFor W.state self.old m → IfErr result IsPassing }
+        ensures sound { W.tells → IfErr result IsPassing }
         ensures broken { (error : SiteError) → self.old.error ≡ Some error → IsErrOf result (CoreError.Broken error) }
         ensures steady { OnOk result (self.new.error ≡ None) }
         ensures none_fell { NoneFell (W.counts self.old.site) (W.counts self.new.site) }

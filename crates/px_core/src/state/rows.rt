@@ -25,7 +25,7 @@ impl<W: Site> Core<W> {
     ///
     /// - `OutOfMemory`: the call or the site wanted memory.
     /// - `Fault`: a read failed.
-    /// - `Damaged`: a cell isn't what a store may have there. Never where the core works for a machine.
+    /// - `Damaged`: a cell isn't what a store may have there. Never on a site that tells its files: the opening has looked at them.
     /// - `Broken`: exactly where the core keeps an error of an earlier call.
     pub fn next_row(&mut self, after: Option<&KeyOf>) -> Result<Option<Row>, CoreError>
         ensures row { W.tells → (m : Machine) → WorksFor W.state self.old m
@@ -35,7 +35,7 @@ impl<W: Site> Core<W> {
         ensures works { W.tells → (m : Machine) → WorksFor W.state self.old m → WorksFor W.state self.new m }
         ensures broken { (error : SiteError) → self.old.error ≡ Some error → IsErrOf result (CoreError.Broken error) }
         ensures cause { IfErr result (HasRowCause W.counts self.old self.new) }
-        ensures sound { W.tells → (m : Machine) → WorksFor W.state self.old m → IfErr result IsPassing }
+        ensures sound { W.tells → IfErr result IsPassing }
         ensures none_fell { NoneFell (W.counts self.old.site) (W.counts self.new.site) }
     {
         if let Some(error) = self.kept.error {
