@@ -13,7 +13,6 @@ use Rattle.px_model.specs.declared.row.Row.{Row}
 use Rattle.px_model.specs.Machine.{Machine}
 use Rattle.px_site.specs.Cause.{Counts}
 use Rattle.px_site.specs.State.{State}
-use Rattle.px_working.specs.Follows.{last_store}
 use Rattle.px_core.specs.Core.{HasRowCause, IsWell}
 use Rattle.px_core.specs.Errors.{IsPassing, of_held}
 use Rattle.px_core.specs.Serving.{Walks}
