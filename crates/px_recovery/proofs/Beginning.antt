@@ -1,8 +1,8 @@
 -- What was opened is what was found, and its machine may begin to work.
-use Rattle.std.proofs.Common.{◌≡◌, ℕ, ◌+◌, true, List, length, sym, ap, subst, ◌∙◌, arith}
+use Rattle.std.proofs.Common.{◌≡◌, ℕ, true, List, length, sym, ap, subst, ◌∙◌, arith}
 use Rattle.px_active.specs.Active.{IsActiveOf}
 use Rattle.px_active.specs.declared.active.Active.{Active}
-use Rattle.px_cell_standing.specs.Found.{CanBeFound, Found, machine_of}
+use Rattle.px_cell_standing.specs.Found.{Found}
 use Rattle.px_core.specs.Working.{MayBegin}
 use Rattle.px_log.specs.Log.{Log}
 use Rattle.px_model.specs.Machine.{Machine, commits, fresh}
@@ -10,14 +10,12 @@ use Rattle.px_model.specs.Rows.{in_order}
 use Rattle.px_model.specs.declared.row.Row.{Row}
 use Rattle.px_restart.specs.declared.restart.Restart.{Restart}
 use Rattle.px_shown.specs.Parts.{no_parts}
-use Rattle.px_standing.specs.Images.{acked}
 use Rattle.px_tidying.specs.Opening.{HasLife, Opening}
-use Rattle.px_working.specs.Works.{Works}
 use Rattle.px_xacts.specs.Transactions as transactions
 use Rattle.px_cell_opening.specs.Opened as cells
 use Rattle.px_cell_opening.specs.declared.opening.Cells.{Cells}
 use Rattle.px_recovery.specs.Cells.{AreCellsOf}
-use Rattle.px_recovery.specs.Opening.{BeginsWith, report_of}
+use Rattle.px_recovery.specs.Opening.{BeginsWith}
 use Rattle.px_recovery.specs.declared.opening.OpenReport.{OpenReport}
 
 fresh_order : (tables short : ℕ) (rows : List Row) (before base : ℕ) → in_order rows ≡ true → in_order (fresh tables short rows before base).opening ≡ true

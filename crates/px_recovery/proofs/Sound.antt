@@ -1,5 +1,5 @@
 -- Files that can be read are not refused.
-use Rattle.std.proofs.Common.{◌≡◌, ℕ, All, List, [], ◌∷◌, map, subst, inl, inr}
+use Rattle.std.proofs.Common.{ℕ, All, List, [], ◌∷◌, map, subst, inl, inr}
 use Rattle.std.proofs.lemmas.List.Elements.{All-cons, All-contains, All-head, All-nil, All-tail}
 use Rattle.std.specs.Prelude.{Contains}
 use Rattle.px_cells.specs.declared.slot.Slot.{Slot}

@@ -1,4 +1,4 @@
-use Rattle.std.proofs.Common.{List, sym, subst, ◌∙◌}
+use Rattle.std.proofs.Common.{sym, subst, ◌∙◌}
 use Rattle.px_site.proofs.Causes.{then_none_fell}
 use Rattle.px_site.specs.State.{State}
 use Rattle.px_tidying.specs.Opening.{opening}
