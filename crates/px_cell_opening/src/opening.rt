@@ -25,9 +25,7 @@ use crate::laws::{
     tables_that_open_may_be_tidied, what_stands_has_no_damage, what_was_found_rests,
     what_was_read_has_its_life, what_was_tidied_goes_on,
 };
-use px_cell_standing::{
-    a_cut_leaves_what_stands, what_lasts_stands, what_was_opened_can_be_found,
-};
+use px_cell_standing::{a_cut_leaves_what_stands, what_lasts_stands, what_was_opened_can_be_found};
 use px_change::Change;
 use px_held::Held;
 use px_log::{ChangeList, Xlog, scan_log};

@@ -1,18 +1,14 @@
-use Rattle.std.proofs.Common.{List, All, refl, subst, sym, ◌∙◌}
+use Rattle.std.proofs.Common.{List, All, subst, sym, ◌∙◌}
 use Rattle.px_change.specs.declared.change.Change.{Change}
 use Rattle.px_history.specs.Fitting.{IsStoredNumber}
-use Rattle.px_log.specs.Contents.{Scans, log_text}
-use Rattle.px_log.specs.Log.{IsLogOf, OnlyGrew, ReadsAsBefore}
 use Rattle.px_log.specs.Scanning.{ScansTo}
-use Rattle.px_site.specs.Disk.{at_rest}
-use Rattle.px_site.specs.State.{EachMoment, OnFile, Stands, State}
+use Rattle.px_site.specs.State.{State}
 use Rattle.px_tidying.proofs.Next.{if_err}
-use Rattle.px_tidying.proofs.Quiet.{still_alone}
 use Rattle.px_xlog.specs.Contents.{the_log}
 use Rattle.px_cell_opening.proofs.Numbers.{all_stored}
-use Rattle.px_cell_opening.proofs.Refusals.{next_refusal, open_leaves, open_refusal, same_leaves}
+use Rattle.px_cell_opening.proofs.Refusals.{next_refusal}
 use Rattle.px_cell_opening.proofs.Tables.{found_is}
-use Rattle.px_cell_opening.specs.Errors.{HasRefusal, LeavesDamaged, of_held, of_log, of_tables}
+use Rattle.px_cell_opening.specs.Errors.{HasRefusal, of_held}
 use Rattle.px_cell_opening.specs.declared.opening.Found.{Found}
 use Rattle.px_cell_opening.proofs.opening.find_cells.Goals as goal
 
