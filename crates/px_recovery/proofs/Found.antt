@@ -18,10 +18,9 @@ use Rattle.px_site.specs.State.{State}
 use Rattle.px_standing.specs.Standing.{Files, first_restart, second_restart}
 use Rattle.px_xlog.specs.Contents.{the_log}
 use Rattle.px_cell_opening.proofs.One.{one_scan}
-use Rattle.px_cell_opening.proofs.Standing.{Says, finds_by, is_beside, says_of}
+use Rattle.px_cell_opening.proofs.Standing.{IsBeside, Says, finds_by, says_of}
 use Rattle.px_cell_opening.specs.Errors.{HasNoRoom}
 use Rattle.px_cell_opening.specs.Opened.{OpensAs}
-use Rattle.px_cell_opening.specs.Settled.{StandsFrom}
 use Rattle.px_cell_opening.specs.declared.opening.Cells.{Cells}
 use Rattle.px_cell_standing.proofs.One.{SameLayouts, SameShown, SameTables}
 use Rattle.px_cell_standing.specs.Found.{Found, IsFound, IsReadIn, found_in, machine_of}
@@ -38,20 +37,6 @@ OneFound = (files : Files) (found other : Found) → IsFound found files → IsF
 
 abbrev pub FoundStands : Type 0
 FoundStands = (files : Files) (found : Found) → IsFound found files → StandsFor files found.commits found.rows
-
--- ---- files in which something is found may be opened
-
-pub stands_from : FoundStands → (files : Files) (found : Found) (restart : Restart) → IsFound found files → IsOneFile files
-    → IsPicked (first_restart files) (second_restart files) restart → StandsFrom restart found.commits found.rows files
-stands_from stands files found restart is_found one picked =
-    let from = one.begins restart picked in
-    record {
-      stands = stands files found is_found;
-      picked = picked;
-      from_start = record { segment = from.segment; first = from.first; redo = from.redo };
-      others = one.segments;
-      no_cells = one.cells;
-    }
 
 -- ---- two openings of the same places
 
@@ -78,11 +63,11 @@ reading found restart changes tables layouts next =
 
 module _ (tables_are : SameTables) (layouts_are : SameLayouts) (shown : SameShown) (stands : FoundStands) (one : OneFound) (files : Files) (found : Found) (restart : Restart)
     (is_found : IsFound found files) (one_file : IsOneFile files) (picked : IsPicked (first_restart files) (second_restart files) restart) where
-  from : StandsFrom restart found.commits found.rows files
-  from = stands_from stands files found restart is_found one_file picked
+  beside : IsBeside restart files
+  beside = record { picked = picked; one = one_file }
 
   says : Says restart found.commits found.rows (files the_log)
-  says = says_of restart found.commits found.rows files from
+  says = says_of restart found.commits found.rows files beside (stands files found is_found)
 
   first : restart.first ≡ 0
   first = (one_file.begins restart picked).first
@@ -105,7 +90,7 @@ module _ (tables_are : SameTables) (layouts_are : SameLayouts) (shown : SameShow
     reads : IsReadIn files (reading found restart changes tables layouts next)
     reads = record {
       finds =
-          finds_by restart files changes tables layouts (is_beside restart found.commits found.rows files from) opened.scan opened.opens
+          finds_by restart files changes tables layouts beside opened.scan opened.opens
           (stored_alike tables_are layouts_are restart.short restart.tables places says.found tables says.layouts layouts says_opens opened.opens says.numbers);
       shows = shows;
       number = opened.is_next;
@@ -162,6 +147,5 @@ finds_no_room tables_are layouts_are shown stands one files found frame is_found
 pub found_sound : FoundStands → (files : Files) (found : Found) (is_found : IsFound found files) → IsOneFile files
     → (changes : List Change) × (tables : Tables) × (layouts : Layouts) × IsSound is_found.read.restart (files the_log) changes tables layouts
 found_sound stands files found is_found one_file =
-    let restart = is_found.read.restart in
-    let says = says_of restart found.commits found.rows files (stands_from stands files found restart is_found one_file is_found.reads.finds.picked) in
+    let says = says_of is_found.read.restart found.commits found.rows files (record { picked = is_found.reads.finds.picked; one = one_file }) (stands files found is_found) in
     (says.changes, says.found, says.layouts, record { scan = says.scan; opens = says.opens; stored = says.numbers })

@@ -18,9 +18,9 @@ use Rattle.px_site.specs.declared.name.FileName.{FileName}
 use Rattle.px_standing.specs.Standing.{Files, first_restart, second_restart}
 use Rattle.px_tidying.specs.Numbers.{IsUnstoredIn}
 use Rattle.px_xlog.specs.Contents.{the_log}
-use Rattle.px_cell_opening.proofs.One.{no_log_damage, one_picked, one_scan}
+use Rattle.px_cell_opening.proofs.One.{no_log_damage, one_scan}
 use Rattle.px_cell_opening.specs.Errors.{IsDamage}
-use Rattle.px_cell_standing.proofs.One.{SameLayouts, SameTables}
+use Rattle.px_cell_standing.proofs.One.{SameLayouts, SameTables, one_picked}
 use Rattle.px_recovery.specs.Errors.{HasRefusal, IsPassing}
 use Rattle.px_recovery.specs.declared.error.OpenError.{OpenError}
 use Rattle.px_recovery.specs.declared.error.OpenError.TheVariants.{OutOfMemory, Fault, NoStore, LogFull, Damaged}
