@@ -389,6 +389,7 @@ line_asked {input} {old} {new} {left} {left_now} {lines} read looks cause moves 
     record {
       command = λ c is. (handed_call h c is, handed_on h c is);
       bad = λ none. record { taken = taken; in_order = r.in_order; within = r.within; fits = r.bad none; read_before = r.read_before; counts = refl; little = r.little };
+      damage = λ file place. record { taken = taken; in_order = r.in_order; within = r.within; fits = tt; read_before = r.read_before; counts = tt; little = r.little };
       disk = λ fault. record { taken = taken; in_order = r.in_order; within = r.within; fits = tt; read_before = r.read_before; counts = tt; little = r.little };
       output = record { taken = taken; in_order = r.in_order; within = r.within; fits = tt; read_before = r.read_before; counts = tt; little = r.little };
       memory = record { taken = taken; in_order = r.in_order; within = r.within; fits = tt; read_before = r.read_before; counts = tt; little = r.little };

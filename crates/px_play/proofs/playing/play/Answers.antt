@@ -54,7 +54,7 @@ returns-in-Err-turn-clause-plays g c = λ tells tells_too m works.
     let asked = c.in_default.ensures.asked tells_too (g.S.Source.left c.args.source.now) read in
     let status = c.in-Err-turn.status in
     let said = c.in-Err-turn.ensures in
-    turn_ends g.W.Site.state g.W.Site.counts status (subst (λ (line : List ℕ). HasTurnEnd line (c.loop-answered.answered + 1) status) c.line.ensures said.ends) asked (few_calls read) played c.loop-answered.invariant.none_fell
+    turn_ends g.W.Site.state g.W.Site.counts status (subst (λ (line : List ℕ). HasTurnEnd line (c.loop-answered.answered + 1) status) c.line.ensures said.ends) (said.sound tells) asked (few_calls read) played c.loop-answered.invariant.none_fell
     (λ none. said.unplayed (ap command_line c.line.ensures ∙ none))
     (λ d is. said.plays tells d (ap command_line c.line.ensures ∙ is) _ played.made.holds.works)
 
