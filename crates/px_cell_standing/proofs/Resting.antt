@@ -14,7 +14,7 @@ use Rattle.px_standing.specs.Images.{IsPlainImage}
 use Rattle.px_standing.specs.Standing.{Files}
 use Rattle.px_xlog.specs.Contents.{the_log}
 use Rattle.px_xlog.specs.Written.{IsBehind, IsPlainLog}
-use Rattle.px_cell_standing.specs.Settled.{BeginsAtStart, IsAtRest, IsOneFile, KeepsOneFile, Settled}
+use Rattle.px_cell_standing.specs.Settled.{BeginsAtStart, IsAlone, IsAtRest, IsOneFile, KeepsOneFile, Settled}
 use Rattle.px_cell_standing.specs.Standing.{StandsFor}
 use Rattle.px_cell_standing.proofs.Plain.{plain_restart, rest_is_plain}
 
@@ -57,6 +57,14 @@ image_is_one now image one plain = record {
   where
     empty : (name : FileName) → now.files name ≡ at_rest [] → image name ≡ []
     empty name rests = image_of_rest [] (image name) (subst (λ (f : FileState). IsImage f (image name)) rests (plain.each name))
+
+-- what is read of it is one of these
+pub settled_alone : (s : State) (commits : ℕ) (rows : List Row) → Settled s commits rows → IsAlone s
+settled_alone s commits rows settled = record {
+  content = image_is_one s.now s.content settled.alone settled.plain;
+  tables = settled.alone.tables;
+  segments = settled.alone.segments;
+}
 
 pub crash_settles : (s later : State) (commits : ℕ) (rows : List Row) (image : Files) → Settled s commits rows → IsPlainImage s.now image → IsAtRest image later
     → Settled later commits rows

@@ -70,7 +70,7 @@ use Rattle.px_core.proofs.Appended.{FollowsBy, IsFramed}
 use Rattle.px_core.proofs.Behind.{does_behind}
 use Rattle.px_core.proofs.Ending.{unmoved}
 use Rattle.px_core.proofs.Leaving.{refused_leaves}
-use Rattle.px_core.proofs.Still.{Still, out_of_memory, read_refused, still_answered, still_well}
+use Rattle.px_core.proofs.Still.{Still, out_of_memory, read_refused, still_answered, still_well, well_sound}
 
 -- ---- a version
 
@@ -302,7 +302,7 @@ module _ {W : Type 0} (tells : Type 0) (state : W → State) (counts : W → Cou
       read_refused tells state counts session call old mid (λ m works. CountsFor call m) (finds_still (Err error) finds) well whole (ap (λ (a : Active). a.commits) same)
       finds.reads.stays.none_fell same (write_no_end call writes) error finds.reads.cause.fault
       (meets_own call (counts old.site) (counts mid.site) error writes finds.reads.cause.fault)
-      (λ t m works. finds.reads.cause.sound t m.short (last_store works.life) works.has.store.serves works.works.holds.sound)
+      (λ t. finds.reads.cause.sound t old.held.short well.store well.has.serves (well_sound state old well))
 
   pub write_refused : (reply : Reply) → Finds tells state counts session call old mid (Ok (Err reply)) → Serves tells state counts session call old mid (Ok reply)
   write_refused reply finds =

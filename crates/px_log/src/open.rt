@@ -1,4 +1,4 @@
-ghost use Rattle.std.specs.Prelude.{◌≡◌, ⊤, ◌*◌, ◌^◌, ◌≤◌, true, length, take, IfOk, IfErr, OnOk};
+ghost use Rattle.std.specs.Prelude.{◌≡◌, ⊤, ◌^◌, ◌≤◌, length, take, IfOk, IfErr, OnOk};
 ghost use Rattle.px_site.specs.Cause.{NoneFell};
 ghost use Rattle.px_site.specs.Disk.{at_rest};
 ghost use Rattle.px_site.specs.State.{EachMoment, OnFile, Stands};
@@ -7,8 +7,8 @@ ghost use Rattle.px_log.specs.Log.{IsCutting, IsLogOf, OnlyGrew, ReadsAsBefore};
 ghost use Rattle.px_log.specs.MayStand.{MayStand};
 ghost use Rattle.px_log.specs.Contents.{Scans, log_text};
 ghost use Rattle.px_xlog.specs.Contents.{the_log};
+ghost use Rattle.px_log.specs.Scanned.{IsScan, log_of};
 ghost use Rattle.px_log.specs.Scanning.{ScansTo};
-ghost use Rattle.px_log.specs.Window.{longest_frame};
 
 use crate::place::log_file;
 use crate::reader::{LogScan, read_log};
@@ -44,23 +44,21 @@ pub fn open_log<W: Site>(
     ensures own { IfErr result IsFileFault }
     ensures cause { W.tells → IfErr result (HasOpenCause restart.now ((W.state site.old).content the_log) (W.counts site.old) (W.counts site.new)) }
 {
-    let scan = recover(alloc, site, restart)?;
-    let log = Xlog::recovered(alloc, restart, scan.frames, scan.stop);
-    Ok((log, scan.changes))
+    let scan = scan_log(alloc, site, restart)?;
+    scan.open(alloc, site, restart)
 }
 
-fn recover<W: Site>(alloc: Global, site: &mut W, restart: &Restart) -> Result<LogScan, LogOpenError>
+/// Reads the log from its first frame on, and changes nothing. Damaged where the reading stops below the restart's
+/// `durable`, or where the payload of a frame is no change that it may hold.
+pub fn scan_log<W: Site>(
+    alloc: Global,
+    site: &mut W,
+    restart: &Restart,
+) -> Result<LogScan, LogOpenError>
     ensures scan { W.tells → IfOk result (λ scan. ScansTo ((W.state site.old).content the_log) scan.changes scan.stop) }
-    ensures held { IfOk result (λ scan. MayStand restart.now.tables 0 restart.now.short scan.changes) }
-    ensures count { IfOk result (λ scan. scan.frames ≡ length scan.changes) }
-    ensures reached { IfOk result (λ scan. restart.now.durable ≤ scan.frames) }
-    ensures small { IfOk result (λ scan. (scan.stop ≤ longest_frame * scan.frames) × (scan.frames ≤ 2 ^ 48)) }
-    ensures left { W.tells → IfOk result (λ scan.
-        Stands the_log (W.state site.old) (at_rest (log_text scan.changes)) (log_text scan.changes) (W.state site.new)) }
-    ensures untouched { W.tells → IfErr result (λ error. LeavesSite (W.state site.old) (W.state site.new) (W.counts site.old) (W.counts site.new) error) }
-    ensures moments { W.tells → OnlyGrew ((W.state site.old).now.files the_log) ((W.state site.old).content the_log)
-        → EachMoment (OnFile the_log (W.state site.old).now (ReadsAsBefore ((W.state site.old).now.files the_log))) (W.state site.old) (W.state site.new) }
-    ensures log_alone { W.tells → EachMoment (OnFile the_log (W.state site.old).now (λ file. ⊤)) (W.state site.old) (W.state site.new) }
+    ensures read { W.tells → IfOk result (λ scan. Scans restart.now ((W.state site.old).content the_log) scan.changes) }
+    ensures log { IfOk result (IsScan restart.now) }
+    ensures same { W.tells → W.state site.new ≡ W.state site.old }
     ensures none_fell { NoneFell (W.counts site.old) (W.counts site.new) }
     ensures fault { IfErr result (CountsLogFault (W.counts site.old) (W.counts site.new)) }
     ensures own { IfErr result IsFileFault }
@@ -73,8 +71,40 @@ fn recover<W: Site>(alloc: Global, site: &mut W, restart: &Restart) -> Result<Lo
             place: scan.stop,
         });
     }
-    cut_log(site, scan.stop)?;
     Ok(scan)
+}
+
+impl LogScan {
+    /// Cuts what is torn behind what was read, makes the cut durable, and gives the log to which frames are appended.
+    /// OutOfMemory where the site wants memory; an error may come behind the cut.
+    pub fn open<W: Site>(
+        self,
+        alloc: Global,
+        site: &mut W,
+        restart: &Restart,
+    ) -> Result<(Xlog, ChangeList), LogOpenError>
+        requires log { IsScan restart.now self }
+        requires scan { W.tells → ScansTo ((W.state site.old).content the_log) self.changes self.stop }
+        ensures changes { IfOk result (λ opened. opened.1 ≡ self.changes) }
+        ensures log { IfOk result (λ opened. opened.0 ≡ log_of restart.now self) }
+        ensures logged { W.tells → IfOk result (λ opened. IsLogOf opened.0 self.changes (W.state site.new)) }
+        ensures left { W.tells → OnOk result (Stands the_log (W.state site.old) (at_rest (log_text self.changes)) (log_text self.changes) (W.state site.new)) }
+        ensures moments { W.tells → OnlyGrew ((W.state site.old).now.files the_log) ((W.state site.old).content the_log)
+            → EachMoment (OnFile the_log (W.state site.old).now (ReadsAsBefore ((W.state site.old).now.files the_log))) (W.state site.old) (W.state site.new) }
+        ensures log_alone { W.tells → EachMoment (OnFile the_log (W.state site.old).now (λ file. ⊤)) (W.state site.old) (W.state site.new) }
+        ensures untouched { W.tells → IfErr result (λ error. LeavesSite (W.state site.old) (W.state site.new) (W.counts site.old) (W.counts site.new) error) }
+        ensures none_fell { NoneFell (W.counts site.old) (W.counts site.new) }
+        ensures cause { IfErr result (IsOfSite (W.counts site.old) (W.counts site.new)) }
+        ensures own { IfErr result IsFileFault }
+    {
+        let LogScan {
+            changes,
+            frames,
+            stop,
+        } = self;
+        cut_log(site, stop)?;
+        Ok((Xlog::recovered(alloc, restart, frames, stop), changes))
+    }
 }
 
 // What stands behind the scanned frames is cut, and the cut is synced before anything is written there. Else a whole

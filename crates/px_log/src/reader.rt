@@ -18,7 +18,7 @@ use px_restart::Restart;
 use px_site::Site;
 use std::alloc::{AllocError, Global};
 
-/// The changes of a log, how many they are, and where its scan stops.
+/// What was read of a log: its changes, how many they are, and where the reading stopped.
 #[derive(Drop)]
 pub struct LogScan {
     pub changes: ChangeList,

@@ -1,5 +1,5 @@
 -- The causes of errors, and that none is damage where the cells are sound.
-use Rattle.std.proofs.Common.{◌≡◌, ℕ, ◌≤◌, Bool, true, false, Some, None, Option, IfErr, Result, Ok, Err, sym, ap, subst, ◌∙◌, arith, refl, inl, inr}
+use Rattle.std.proofs.Common.{◌≡◌, ℕ, ◌≤◌, Bool, true, false, Some, None, Option, sym, ap, subst, ◌∙◌, arith, refl, inl, inr}
 use Rattle.std.specs.Prelude.{cond, is_some, nat_lt, unwrap_or}
 use Rattle.std.proofs.lemmas.Bool.{cases_Bool, false≢true, ltb-false}
 use Rattle.px_held.specs.Errors as held
@@ -25,13 +25,17 @@ held_cause old new held_errors.OutOfMemory cause = tt
 held_cause old new (held_errors.Fault fault) cause = subst (λ f. Rose (old.faults f) (new.faults f)) (sym cause.0) cause.1
 held_cause old new (held_errors.Damaged file place) cause = tt
 
+-- the frame that finds no room is the log's next one
+pub next_frame : (log : Log) (frame : ℕ) → full_at log ≡ Some frame → log.frames ≡ frame
+next_frame log frame full = elim (cases_Bool (nat_lt log.frames most_frames)) [
+  | inl below ↦ absurd (false≢true (ap is_some (sym (ap (λ b. cond b None (Some log.frames)) below) ∙ full)))
+  | inr past ↦ ap (λ (o : Option ℕ). unwrap_or o 0) (sym (ap (λ b. cond b None (Some log.frames)) past) ∙ full)
+]
+
 full_from : (log : Log) (frame : ℕ) → full_at log ≡ Some frame → most_frames ≤ frame
 full_from log frame full = elim (cases_Bool (nat_lt log.frames most_frames)) [
   | inl below ↦ absurd (false≢true (ap is_some (sym (ap (λ b. cond b None (Some log.frames)) below) ∙ full)))
-  | inr past ↦
-      let same : log.frames ≡ frame = ap (λ (o : Option ℕ). unwrap_or o 0) (sym (ap (λ b. cond b None (Some log.frames)) past) ∙ full) in
-      let from : most_frames ≤ log.frames = ltb-false log.frames most_frames past in
-      subst (λ (n : ℕ). most_frames ≤ n) same from
+  | inr past ↦ let from : most_frames ≤ log.frames = ltb-false log.frames most_frames past in subst (λ (n : ℕ). most_frames ≤ n) (next_frame log frame full) from
 ]
 
 pub log_cause : (log : Log) (old new : Counts) (e : LogError) → HasLogCause log old new e → HasTidyCause old new (of_log e)

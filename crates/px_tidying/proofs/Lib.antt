@@ -1,6 +1,7 @@
 pub mod Causes
 pub mod Composing
 pub mod Flushing
+pub mod Full
 pub mod Going
 pub mod Loops
 pub mod Made

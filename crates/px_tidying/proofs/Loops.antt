@@ -1,8 +1,6 @@
 -- The versions of a row, one after the other.
 use Rattle.std.proofs.Common.{◌≡◌, ℕ, zero, suc, ◌+◌, ◌<◌, ◌≤◌, List, [], ◌∷◌, ◌++◌, get_or, length, map, take, refl, sym, ap, subst, ◌∙◌, arith}
-use Rattle.std.proofs.lemmas.List.{length-map, take_all}
-use Rattle.px_cells.specs.declared.slot.Slot.{Slot}
-use Rattle.px_chain.specs.Sound.{IsUsedRow}
+use Rattle.std.proofs.lemmas.List.{length-map, length-take-le, take_all}
 use Rattle.px_held.proofs.Serving.{served}
 use Rattle.px_history.specs.Steps.{Step, after_steps}
 use Rattle.px_history.specs.Store.{Store, versions_of}
@@ -14,8 +12,8 @@ use Rattle.px_tidy.specs.Steps.{tidying_row}
 use Rattle.px_tidy.specs.Unneeded.{unneeded_at}
 use Rattle.px_tidy.specs.declared.tidying.Unneeded.{Unneeded}
 use Rattle.px_tidying.specs.Going.{HasRow, MayGo, MayGoInTurn}
-use Rattle.px_tidying.specs.Opening.{HasStore, LastsThrough, Made, Opening}
-use Rattle.px_tidying.proofs.Composing.{both_last, both_made}
+use Rattle.px_tidying.specs.Opening.{HasStore, Made, Opening}
+use Rattle.px_tidying.proofs.Composing.{both_made}
 use Rattle.px_tidying.proofs.Going.{row_goes, step_more, turn_at}
 use Rattle.px_tidying.proofs.Made.{unlink_of}
 
@@ -64,6 +62,12 @@ module _ (done : Done) (t row : ℕ) (store : Store) (old : Opening) (versions :
   one_more tells index b c within first second =
       subst (λ (l : List Step). Made tells store l old c) (steps_more index within)
       (both_made tells store (take index (tidying_row store t row)) (unlink_of t row (place index) ∷ []) old b c first second)
+
+  -- its frame is one of the row's
+  pub one_within : (index : ℕ) → index < length versions → length (take index (tidying_row store t row)) + 1 ≤ length (tidying_row store t row)
+  one_within index within =
+      let long : length (tidying_row store t row) ≡ length places = length-map places (λ (at : ℕ). Step.unlink t row at 1) in
+      omega (arith, within, as_many, long, length-take-le index (tidying_row store t row) (omega (arith, within, as_many, long)))
 
   pub all_made : (tells : Type 0) (index : ℕ) (b : Opening) → length versions ≤ index → Made tells store (take index (tidying_row store t row)) old b
       → Made tells store (tidying_row store t row) old b

@@ -1,18 +1,17 @@
 -- Rows and tables one after the other: what the tables have meanwhile says what the store had before.
-use Rattle.std.proofs.Common.{◌≡◌, ◌≢◌, ℕ, zero, suc, ◌+◌, ◌<◌, ◌≤◌, Bool, cond, All, List, [], ◌∷◌, ◌++◌, map, refl, sym, ap, subst, ◌∙◌, arith, ⊎_elim}
+use Rattle.std.proofs.Common.{◌≡◌, ◌≢◌, ℕ, zero, suc, ◌<◌, Bool, cond, All, List, [], ◌∷◌, ◌++◌, map, refl, sym, ap, ◌∙◌, arith, ⊎_elim}
 use Rattle.std.proofs.lemmas.Bool.{cases_eq, eq-eqb, ne_eqb}
 use Rattle.std.proofs.lemmas.List.Elements.{All-head, All-tail}
 use Rattle.px_beginning.proofs.Unlinks.{tables_unlink}
 use Rattle.px_cells.specs.declared.header.Header.{Header}
 use Rattle.px_cells.specs.declared.slot.Slot.{Slot}
 use Rattle.px_chain.specs.Links.{chain_of, parts_of, unlink_cells}
-use Rattle.px_chain.specs.Sound.{IsUsedRow}
 use Rattle.px_chain.specs.Table.{laid}
-use Rattle.px_history.specs.Steps.{IsUnlink, Step, after_step, after_steps, after_unlink}
+use Rattle.px_history.specs.Steps.{IsUnlink, Step, after_steps, after_unlink}
 use Rattle.px_history.specs.Store.{Store, versions_of}
 use Rattle.px_shown.specs.Shown.{Done}
 use Rattle.px_shown.specs.Tables.{AreSound}
-use Rattle.px_tidy.proofs.Stores.{last_steps, next_steps, rows_tidied, table_tidied, tables_tidied}
+use Rattle.px_tidy.proofs.Stores.{last_steps, next_steps, rows_tidied, tables_tidied}
 use Rattle.px_tidy.specs.Kept.{tidied_away}
 use Rattle.px_tidy.specs.Rows.{HasNoRowPast, IsNextRow}
 use Rattle.px_tidy.specs.Steps.{IsOfTableUpTo, IsRowSame, IsRowUpTo, Tidies, tidying_row, tidying_rows, tidying_table, tidying_tables}
@@ -46,7 +45,7 @@ module _ (short : ℕ) (store : Store) (t last : ℕ) (sound : AreSound short st
   past_same : (row : ℕ) → last < row → IsRowSame store middle t row
   past_same row past = tidies.others t row (λ is. let to = is.2 in omega (arith, to, past))
 
-  next_before : (row : ℕ) → IsNextRow (middle.tables t) last row → IsNextRow (store.tables t) last row
+  pub next_before : (row : ℕ) → IsNextRow (middle.tables t) last row → IsNextRow (store.tables t) last row
   next_before row next = record {
     past = next.past;
     used = (past_same row next.past).used.0 next.used;

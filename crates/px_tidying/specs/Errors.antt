@@ -1,5 +1,5 @@
 -- Why tidying gives up.
-use Rattle.std.specs.Prelude.{◌≢◌, ◌≤◌, ⊤}
+use Rattle.std.specs.Prelude.{◌≢◌, ◌<◌, ◌≤◌, ⊤, ℕ}
 use Rattle.px_held.specs.declared.error.HeldError.{HeldError}
 use Rattle.px_held.specs.declared.error.HeldError.TheVariants as held
 use Rattle.px_log.specs.Log.{most_frames}
@@ -46,3 +46,10 @@ IsFileFault OutOfMemory = ⊤
 IsFileFault (Fault fault) = fault ≢ Tell
 IsFileFault (LogFull frame) = ⊤
 IsFileFault (Damaged file place) = ⊤
+
+-- a frame for which the log has no room is one of those from one number to before another, which were to be written
+abbrev pub IsFullWithin : (from end : ℕ) → TidyError → Type 0
+IsFullWithin from end OutOfMemory = ⊤
+IsFullWithin from end (Fault fault) = ⊤
+IsFullWithin from end (LogFull frame) = (from ≤ frame) × (frame < end)
+IsFullWithin from end (Damaged file place) = ⊤

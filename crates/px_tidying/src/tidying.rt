@@ -14,7 +14,7 @@ ghost use Rattle.px_tidy.specs.Steps.{tidying_row, tidying_table, tidying_tables
 ghost use Rattle.px_working.specs.Follows.{last_store};
 ghost use Rattle.px_xlog.specs.Contents.{the_log};
 ghost use Rattle.px_beginning.specs.Tidied.{tidied};
-ghost use Rattle.px_tidying.specs.Errors.{HasTidyCause, IsFileFault, IsPassing};
+ghost use Rattle.px_tidying.specs.Errors.{HasTidyCause, IsFileFault, IsFullWithin, IsPassing};
 ghost use Rattle.px_tidying.specs.Going.{HasRow, IsDoneBy, MayGo};
 ghost use Rattle.px_tidying.specs.Opening.{HasLife, HasStore, LastsThrough, Made, opening};
 
@@ -49,6 +49,8 @@ pub fn tidy<W: Site>(
         → LastsThrough W.tells store (opening (W.state site.old) held.old log.old) (opening (W.state site.new) held.new log.new) }
     ensures sound { W.tells → IfErr result IsPassing }
     ensures log_alone { W.tells → EachMoment (OnFile the_log (W.state site.old).now (λ file. ⊤)) (W.state site.old) (W.state site.new) }
+    ensures full { (store : Store) → IsDoneBy (done_of done.now) store → HasStore store (opening (W.state site.old) held.old log.old)
+        → IfErr result (IsFullWithin log.old.frames (log.old.frames + length (tidying_tables store tables))) }
     ensures own { IfErr result IsFileFault }
     ensures cause { IfErr result (HasTidyCause (W.counts site.old) (W.counts site.new)) }
     ensures none_fell { NoneFell (W.counts site.old) (W.counts site.new) }
@@ -75,6 +77,8 @@ fn tidy_tables<W: Site>(
         → LastsThrough W.tells store (opening (W.state site.old) held.old log.old) (opening (W.state site.new) held.new log.new) }
     ensures sound { W.tells → IfErr result IsPassing }
     ensures log_alone { W.tells → EachMoment (OnFile the_log (W.state site.old).now (λ file. ⊤)) (W.state site.old) (W.state site.new) }
+    ensures full { (store : Store) → IsDoneBy (done_of done.now) store → HasStore store (opening (W.state site.old) held.old log.old)
+        → IfErr result (IsFullWithin log.old.frames (log.old.frames + length (tidying_tables store tables))) }
     ensures own { IfErr result IsFileFault }
     ensures cause { IfErr result (HasTidyCause (W.counts site.old) (W.counts site.new)) }
     ensures none_fell { NoneFell (W.counts site.old) (W.counts site.new) }
@@ -100,6 +104,8 @@ fn tidy_table<W: Site>(
         → LastsThrough W.tells store (opening (W.state site.old) held.old log.old) (opening (W.state site.new) held.new log.new) }
     ensures sound { W.tells → IfErr result IsPassing }
     ensures log_alone { W.tells → EachMoment (OnFile the_log (W.state site.old).now (λ file. ⊤)) (W.state site.old) (W.state site.new) }
+    ensures full { (store : Store) → IsDoneBy (done_of done.now) store → HasStore store (opening (W.state site.old) held.old log.old)
+        → IfErr result (IsFullWithin log.old.frames (log.old.frames + length (tidying_table store table))) }
     ensures own { IfErr result IsFileFault }
     ensures cause { IfErr result (HasTidyCause (W.counts site.old) (W.counts site.new)) }
     ensures none_fell { NoneFell (W.counts site.old) (W.counts site.new) }
@@ -128,6 +134,8 @@ fn tidy_row<W: Site>(
         → LastsThrough W.tells store (opening (W.state site.old) held.old log.old) (opening (W.state site.new) held.new log.new) }
     ensures sound { W.tells → IfErr result IsPassing }
     ensures log_alone { W.tells → EachMoment (OnFile the_log (W.state site.old).now (λ file. ⊤)) (W.state site.old) (W.state site.new) }
+    ensures full { (store : Store) → HasRow (done_of done.now) table row store → HasStore store (opening (W.state site.old) held.old log.old)
+        → IfErr result (IsFullWithin log.old.frames (log.old.frames + length (tidying_row store table row))) }
     ensures own { IfErr result IsFileFault }
     ensures cause { IfErr result (HasTidyCause (W.counts site.old) (W.counts site.new)) }
     ensures none_fell { NoneFell (W.counts site.old) (W.counts site.new) }
@@ -155,6 +163,7 @@ fn unlink<W: Site>(
         → LastsThrough W.tells store (opening (W.state site.old) held.old log.old) (opening (W.state site.new) held.new log.new) }
     ensures sound { W.tells → IfErr result IsPassing }
     ensures log_alone { W.tells → EachMoment (OnFile the_log (W.state site.old).now (λ file. ⊤)) (W.state site.old) (W.state site.new) }
+    ensures full { IfErr result (IsFullWithin log.old.frames (log.old.frames + 1)) }
     ensures own { IfErr result IsFileFault }
     ensures cause { IfErr result (HasTidyCause (W.counts site.old) (W.counts site.new)) }
     ensures none_fell { NoneFell (W.counts site.old) (W.counts site.new) }

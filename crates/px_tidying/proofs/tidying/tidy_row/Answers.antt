@@ -1,4 +1,4 @@
-use Rattle.std.proofs.Common.{get_or, take, ◌∙◌}
+use Rattle.std.proofs.Common.{◌+◌, get_or, length, take, ◌∙◌}
 use Rattle.px_history.specs.Steps.{after_steps}
 use Rattle.px_history.specs.Store.{versions_of}
 use Rattle.px_site.proofs.Causes.{then_none_fell}
@@ -6,9 +6,12 @@ use Rattle.px_site.proofs.Moments.{same_moment}
 use Rattle.px_tidy.specs.Kept.{tidied_away}
 use Rattle.px_tidy.specs.Numbers.{done_of}
 use Rattle.px_tidy.specs.Steps.{tidying_row}
+use Rattle.px_tidying.specs.Errors.{IsFullWithin}
 use Rattle.px_tidying.specs.Opening.{opening}
 use Rattle.px_tidying.proofs.Composing.{OnlyReads, both_last, none_made, reads_last}
-use Rattle.px_tidying.proofs.Loops.{all_made, next_goes, one_more}
+use Rattle.px_tidying.proofs.Full.{full_behind}
+use Rattle.px_tidying.proofs.Loops.{all_made, next_goes, one_more, one_within}
+use Rattle.px_tidying.proofs.Next.{if_err}
 use Rattle.px_tidying.proofs.Quiet.{alone_then}
 use Rattle.px_tidying.proofs.Readying.{held_reads}
 use Rattle.px_tidying.proofs.tidying.tidy_row.Goals as goal
@@ -98,3 +101,18 @@ returns-clause-made g c = λ store is has.
 pub returns-in_err-unlink-clause-log_alone : goal.returns-in_err-unlink-clause-log_alone
 returns-in_err-unlink-clause-log_alone g c = λ t.
     alone_then (g.W.Site.state c.args.site.now) (g.W.Site.state c.loop-version.site) (g.W.Site.state c.unlink.new.site) (c.loop-version.invariant.quiet t) (c.unlink.ensures.log_alone t)
+
+pub returns-in_err-unlink-clause-full : goal.returns-in_err-unlink-clause-full
+returns-in_err-unlink-clause-full g c = λ store is has.
+    let row = c.args.row in
+    let table = c.args.table in
+    let index = c.loop-version.version-index in
+    let old = opening (g.W.Site.state c.args.site.now) c.args.held.now c.args.log.now in
+    let now = opening (g.W.Site.state c.loop-version.site) c.loop-version.held c.loop-version.log in
+    let are = c.deref-version-items.ensures.value ∙ c.in_ok-versions.ensures.versions store has.serves is.1 in
+    let steps = tidying_row store table row in
+    let error = c.in_err-unlink.field-0.0 in
+    if_err c.from_residual-in_err-unlink.result (IsFullWithin old.log.frames (old.log.frames + length steps)) error c.from_residual-in_err-unlink.ensures.1
+    (full_behind g.W.Site.tells store (take index steps) old now 1 (length steps) error (c.loop-version.invariant.made store is has)
+    (one_within (done_of c.args.done.now) table row store old c.deref-version-items.result.now is has are index c.loop-version-test.true)
+    c.in_err-unlink.ensures.full)

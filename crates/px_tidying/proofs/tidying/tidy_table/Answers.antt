@@ -1,16 +1,19 @@
-use Rattle.std.proofs.Common.{ℕ, List, None, Option, Some, subst}
+use Rattle.std.proofs.Common.{ℕ, ◌+◌, List, None, Option, length, subst}
 use Rattle.std.specs.Prelude.{MatchOption}
 use Rattle.px_held.proofs.Serving.{served}
 use Rattle.px_history.specs.Steps.{Step, after_steps}
 use Rattle.px_site.proofs.Causes.{then_none_fell}
 use Rattle.px_tidy.specs.Numbers.{done_of}
 use Rattle.px_tidy.specs.Rows.{HasNoRowPast, IsNextRow}
-use Rattle.px_tidy.specs.Steps.{tidying_row, tidying_rows}
+use Rattle.px_tidy.specs.Steps.{tidying_row, tidying_rows, tidying_table}
+use Rattle.px_tidying.specs.Errors.{IsFullWithin}
 use Rattle.px_tidying.specs.Opening.{Made, opening}
 use Rattle.px_tidying.proofs.Composing.{OnlyReads, both_last, both_made, made_still, reads_then}
+use Rattle.px_tidying.proofs.Full.{full_behind, up_to_used}
+use Rattle.px_tidying.proofs.Next.{if_err}
 use Rattle.px_tidying.proofs.Quiet.{alone_still, alone_then}
 use Rattle.px_tidying.proofs.Readying.{held_reads}
-use Rattle.px_tidying.proofs.Rows.{next_has_row, next_row_steps, none_before}
+use Rattle.px_tidying.proofs.Rows.{next_before, next_has_row, next_row_steps, none_before}
 use Rattle.px_tidying.proofs.tidying.tidy_table.Goals as goal
 
 pub tidy_row-requires : goal.tidy_row-requires
@@ -124,3 +127,27 @@ returns-in_err-row-clause-log_alone g c = λ t.
 pub returns-clause-log_alone : goal.returns-clause-log_alone
 returns-clause-log_alone g c = λ t.
     alone_still (g.W.Site.state c.args.site.now) (g.W.Site.state c.loop-row.site) (g.W.Site.state c.next_row.new.site) (c.loop-row.invariant.quiet t) (c.next_row.ensures.same t)
+
+pub returns-in_err-tidy_row-clause-full : goal.returns-in_err-tidy_row-clause-full
+returns-in_err-tidy_row-clause-full g c = λ store is has.
+    let tells = g.W.Site.tells in
+    let table = c.args.table in
+    let row = c.in-Some.row in
+    let last = c.loop-row.last in
+    let log = c.loop-row.log in
+    let old = opening (g.W.Site.state c.args.site.now) c.args.held.now c.args.log.now in
+    let now = opening (g.W.Site.state c.loop-row.site) c.loop-row.held log in
+    let second = opening (g.W.Site.state c.next_row.new.site) c.next_row.new.self log in
+    let reads : OnlyReads tells now second =
+    held_reads tells now.site second.site now.held second.held log c.next_row.ensures.keeps c.next_row.ensures.form c.next_row.ensures.same in
+    let made = c.loop-row.invariant.made store is has in
+    let middle = after_steps store (tidying_rows store table last) in
+    let sound = (served old.site old.held store has.serves).sound in
+    let next = subst (λ (o : Option ℕ). MatchOption o (HasNoRowPast (middle.tables table) last) (IsNextRow (middle.tables table) last)) c.in-Some.is
+    (c.in_ok-row.ensures.next middle made.after.serves) in
+    let steps = tidying_row middle table row in
+    let error = c.in_err-tidy_row.field-0.0 in
+    if_err c.from_residual-in_err-tidy_row.result (IsFullWithin old.log.frames (old.log.frames + length (tidying_table store table))) error c.from_residual-in_err-tidy_row.ensures.1
+    (full_behind tells store (tidying_rows store table last) old now (length steps) (length (tidying_table store table)) error made
+    (up_to_used store table last row steps (next_before old.held.short store table last sound row next).used (next_row_steps old.held.short store table last sound row next))
+    (c.in_err-tidy_row.ensures.full middle (next_has_row old.held.short store table last sound (done_of c.args.done.now) row is next) (reads.store middle made.after)))

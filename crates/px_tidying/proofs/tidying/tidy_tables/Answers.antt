@@ -1,11 +1,14 @@
-use Rattle.std.proofs.Common.{◌≡◌, ℕ, ◌+◌, List, arith, subst}
+use Rattle.std.proofs.Common.{◌≡◌, ℕ, ◌+◌, List, arith, length, subst}
 use Rattle.px_held.proofs.Serving.{served}
 use Rattle.px_history.specs.Steps.{Step, after_steps}
 use Rattle.px_site.proofs.Causes.{then_none_fell}
 use Rattle.px_tidy.specs.Numbers.{done_of}
 use Rattle.px_tidy.specs.Steps.{tidying_table, tidying_tables}
+use Rattle.px_tidying.specs.Errors.{IsFullWithin}
 use Rattle.px_tidying.specs.Opening.{Made, opening}
 use Rattle.px_tidying.proofs.Composing.{both_last, both_made}
+use Rattle.px_tidying.proofs.Full.{full_behind, up_to_table}
+use Rattle.px_tidying.proofs.Next.{if_err}
 use Rattle.px_tidying.proofs.Quiet.{alone_then}
 use Rattle.px_tidying.proofs.Rows.{next_is_done, next_table_steps}
 use Rattle.px_tidying.proofs.tidying.tidy_tables.Goals as goal
@@ -67,3 +70,20 @@ returns-clause-made g c = λ store is has.
 pub returns-in_err-tidy_table-clause-log_alone : goal.returns-in_err-tidy_table-clause-log_alone
 returns-in_err-tidy_table-clause-log_alone g c = λ t.
     alone_then (g.W.Site.state c.args.site.now) (g.W.Site.state c.loop-before.site) (g.W.Site.state c.tidy_table.new.site) (c.loop-before.invariant.quiet t) (c.tidy_table.ensures.log_alone t)
+
+pub returns-in_err-tidy_table-clause-full : goal.returns-in_err-tidy_table-clause-full
+returns-in_err-tidy_table-clause-full g c = λ store is has.
+    let tells = g.W.Site.tells in
+    let last = c.loop-before.before in
+    let old = opening (g.W.Site.state c.args.site.now) c.args.held.now c.args.log.now in
+    let now = opening (g.W.Site.state c.loop-before.site) c.loop-before.held c.loop-before.log in
+    let made = c.loop-before.invariant.made store is has in
+    let middle = after_steps store (tidying_tables store last) in
+    let sound = (served old.site old.held store has.serves).sound in
+    let steps = tidying_table middle (last + 1) in
+    let all = tidying_tables store c.args.tables in
+    let error = c.in_err-tidy_table.field-0.0 in
+    if_err c.from_residual.result (IsFullWithin old.log.frames (old.log.frames + length all)) error c.from_residual.ensures.1
+    (full_behind tells store (tidying_tables store last) old now (length steps) (length all) error made
+    (up_to_table store last (last + 1) c.args.tables steps (omega (arith, c.loop-before-test.true)) (next_table_steps old.held.short store last sound (last + 1) (omega arith)))
+    (c.in_err-tidy_table.ensures.full middle (next_is_done old.held.short store last sound (done_of c.args.done.now) is) made.after))
