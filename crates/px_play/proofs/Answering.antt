@@ -2,7 +2,7 @@
 use Rattle.std.proofs.Common.{◌≡◌, ◌⊎◌, ℕ, ◌+◌, ◌≤◌, ◌==◌, Bool, true, false, cond, List, [], ◌∷◌, ◌++◌, length, take, Option, Some, None, Result, Ok, Err, refl, sym, ap, subst, ◌∙◌, inl, inr, arith}
 use Rattle.std.specs.Result.{IfErr}
 use Rattle.std.proofs.lemmas.Bool.{cases_lt}
-use Rattle.px_site.specs.declared.error.Fault.TheVariants.{Read, Tell, Write}
+use Rattle.px_site.specs.declared.error.Fault.TheVariants.{Tell}
 use Rattle.px_site.specs.State.{State, Moment, EachMoment}
 use Rattle.px_site.specs.Cause.{Counts, NoneFell, Rose}
 use Rattle.px_site.proofs.Moments.{then_moments}
