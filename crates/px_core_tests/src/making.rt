@@ -7,8 +7,8 @@ ghost use Rattle.px_held.specs.Serving.{AreNumbered};
 
 use px_active::Active;
 use px_calls::{Call, reply_text};
-use px_core::Core;
 use px_change::ChangeKind;
+use px_core::Core;
 use px_held::Held;
 use px_log::open_log;
 use px_memsite::MemSite;

@@ -1,8 +1,8 @@
 use crate::making::{answer, kinds_in_log, new_core};
 use crate::scripts::{SCRIPTS, TWO_SESSIONS};
 use px_calls::{Call, Event};
-use px_core::Core;
 use px_change::ChangeKind::{self, Commit, Put, Rollback};
+use px_core::Core;
 use px_memsite::MemSite;
 use px_model::Session;
 use px_script::{Line, parse_line};
