@@ -133,9 +133,13 @@ module _ (tables_are : SameTables) (layouts_are : SameLayouts) (shown : SameShow
 
   pub below_frames : (frame : ℕ) → HasNoRoom restart (files the_log) frame → frame < found.frames
   below_frames frame none =
-      omega (arith,
-      ap (λ (f : Found). f.frames)
-      (found_is none.changes none.found none.layouts none.next (record { scan = none.scan; opens = none.opens; is_next = none.is_next })), first, none.below)
+      omega (
+        arith,
+        ap (λ (f : Found). f.frames)
+            (found_is none.changes none.found none.layouts none.next (record { scan = none.scan; opens = none.opens; is_next = none.is_next })),
+        first,
+        none.below,
+      )
 
 pub finds_no_room : SameTables → SameLayouts → SameShown → FoundStands → OneFound → (files : Files) (found : Found) (frame : ℕ) → IsFound found files → IsOneFile files
     → HasNoRoomIn files frame → frame < found.frames
