@@ -1,4 +1,4 @@
-//! What files stand for is one thing; what an opening begins with, and comes to; and what isn't refused.
+//! What files stand for is one thing; what may be opened, and what of that was found; and which files are not refused.
 
 ghost use Rattle.std.specs.Prelude.{◌≡◌, ◌<◌, ℕ, List, true};
 ghost use Rattle.px_cell_opening.specs.Opened as cells;
