@@ -1,7 +1,7 @@
--- What was found of a settled site rests there, begins a life, and works once it was tidied.
-use Rattle.std.proofs.Common.{◌≡◌, ℕ, zero, suc, ◌+◌, ◌-◌, ◌≤◌, Bool, true, false, List, length, map, refl, sym, ap, subst, ◌∙◌, arith}
+-- What was found of a store that may be opened rests there, begins a life, and works once it was tidied.
+use Rattle.std.proofs.Common.{◌≡◌, ℕ, ◌+◌, ◌-◌, ◌≤◌, Bool, true, false, List, [], length, map, refl, sym, ap, subst, ◌∙◌, arith}
+use Rattle.std.specs.Prelude.{⊤}
 use Rattle.std.proofs.lemmas.Bool.Decides.{nat_tests}
-use Rattle.px_apply.specs.Contents.{Contents}
 use Rattle.px_beginning.proofs.Lasting.{found_store, no_cells_rest}
 use Rattle.px_beginning.specs.Found.{HasNoCells, IsFound, Reading, life_of, marks_of}
 use Rattle.px_beginning.specs.Found as beginning
@@ -20,12 +20,11 @@ use Rattle.px_life.specs.Life.{Life, end_of}
 use Rattle.px_log.proofs.FramesOfChanges.{can_frames}
 use Rattle.px_log.specs.Contents.{Scans, log_text}
 use Rattle.px_log.specs.Log.{IsLogOf, Log}
-use Rattle.px_model.specs.Machine.{Machine, commits, fresh, published}
+use Rattle.px_model.specs.Machine.{Machine, commits, fresh}
 use Rattle.px_model.specs.declared.limits.TheConstants.{STORED_NUMBERS_END}
 use Rattle.px_model.specs.declared.row.Row.{Row}
 use Rattle.px_opened.specs.Opened.{Opens, changes_over}
 use Rattle.px_reached.specs.Reachable.{Marks}
-use Rattle.px_reached.specs.Stands.{StandsFor}
 use Rattle.px_recs.specs.Place.{table_file}
 use Rattle.px_restart.specs.Restart.{CanRestart, IsPicked}
 use Rattle.px_restart.specs.declared.restart.Restart.{Restart}
@@ -34,25 +33,31 @@ use Rattle.px_scan.specs.Scan.{frames_of}
 use Rattle.px_shown.specs.Parts.{Parts, no_parts}
 use Rattle.px_shown.specs.Shown.{Done, Shows}
 use Rattle.px_site.proofs.Files.{same_file_is}
+use Rattle.px_site.proofs.Images.{image_at_rest}
+use Rattle.px_site.proofs.Moments.{then_moments, weaker_moments}
 use Rattle.px_site.specs.Disk.{FileState, IsImage, at_rest}
 use Rattle.px_site.specs.Names.{same_file}
-use Rattle.px_site.proofs.Moments.{then_moments, weaker_moments}
-use Rattle.px_site.specs.State.{EachMoment, Moment, Stands, State}
+use Rattle.px_site.specs.State.{EachMoment, Moment, OnFile, Stands, State}
 use Rattle.px_site.specs.declared.name.FileName.{FileName}
 use Rattle.px_site.specs.declared.name.FileName.TheVariants.{Restart as RestartFile, Xlog}
-use Rattle.px_standing.specs.Images.{IsPlainImage}
+use Rattle.px_standing.specs.Standing.{Files}
+use Rattle.px_standing.specs.Stored.{ReadsImages}
+use Rattle.px_tidying.proofs.Composing.{last_moment}
 use Rattle.px_tidying.specs.Opening.{HasLife, HasStore, LastsStill, LastsThrough, Opening, opening}
 use Rattle.px_working.specs.Follows.{last_store}
-use Rattle.px_working.specs.Lasts.{HasBetween, Lasts}
+use Rattle.px_working.specs.Lasts.{Lasts}
 use Rattle.px_working.specs.Works.{Works}
 use Rattle.px_xlog.specs.Contents.{the_log}
+use Rattle.px_cell_standing.specs.Found.{CanBeFound, IsReadIn, found_in}
+use Rattle.px_cell_standing.specs.Found as standing
+use Rattle.px_cell_standing.specs.Images.{ImagesStandFor, KeepsStanding}
+use Rattle.px_cell_standing.specs.Settled.{HasEmptyTables, IsFromStart}
 use Rattle.px_cell_opening.proofs.Numbers.{done_below, few_commits}
 use Rattle.px_cell_opening.proofs.One.{one_scan}
-use Rattle.px_cell_opening.proofs.Standing.{IsBeside, Says, finds_by, image_beside, image_stands, says_of}
+use Rattle.px_cell_opening.proofs.Standing.{IsBeside, Says, finds_by, may_beside, may_says}
 use Rattle.px_cell_opening.proofs.Tables.{has_store}
 use Rattle.px_cell_opening.specs.Found.{HasFound, Rests, reading_of}
-use Rattle.px_cell_opening.specs.Opened.{IsTidiedOf, OpensAs, WorksFrom, machine_of, store_of, tidied_count, tidied_store}
-use Rattle.px_cell_opening.specs.Settled.{KeepsStanding, Settled}
+use Rattle.px_cell_opening.specs.Opened.{IsTidiedOf, MayOpen, OpensAs, WorksFrom, machine_of, store_of, tidied_count, tidied_store}
 use Rattle.px_cell_opening.specs.declared.opening.Cells.{Cells}
 use Rattle.px_cell_opening.specs.declared.opening.Found.{Found}
 
@@ -73,21 +78,21 @@ pub fresh_commits : (tables short : ℕ) (rows : List Row) (before base : ℕ) �
 unfolding fresh commits
 fresh_commits tables short rows before base = omega arith
 
-pub fresh_published : (tables short : ℕ) (rows : List Row) (before base count : ℕ) → published (fresh tables short rows before base) count ≡ rows
-unfolding fresh published
-fresh_published tables short rows before base zero = refl
-fresh_published tables short rows before base (suc count) = refl
-
 -- ---- it rests
 
-rest_is_image : (content : List ℕ) → IsImage (at_rest content) content
-rest_is_image content = record { no_shorter = omega arith; no_longer = omega arith; kept = λ at in_synced in_image clear. refl }
+table_file_away : (what : CellKind) (table : ℕ) → same_file the_log (table_file what table) ≡ false
+table_file_away kind.Header table = refl
+table_file_away kind.Slot table = refl
+table_file_away kind.Pointer table = refl
 
-module _ (show : OpensShow) (restart : Restart) (commits : ℕ) (rows : List Row) (found : Found) (before now : State) (settled : Settled restart commits rows before)
-    (has : HasFound restart found) (scan : Scans restart (before.content the_log) found.changes) (logged : IsLogOf found.log found.changes now)
+segment_away : (segment : ℕ) → 2 ≤ segment → same_file the_log (Xlog segment) ≡ false
+segment_away segment past = grind (arith, nat_tests)
+
+module _ (show : OpensShow) (restart : Restart) (commits : ℕ) (rows : List Row) (found : Found) (before now : State) (may : MayOpen restart commits rows before)
+    (reads : ReadsImages before) (has : HasFound restart found) (scan : Scans restart (before.content the_log) found.changes) (logged : IsLogOf found.log found.changes now)
     (left : Stands the_log before (at_rest (log_text found.changes)) (log_text found.changes) now) where
   says : Says restart commits rows (before.content the_log)
-  says = says_of restart commits rows before.content (image_stands restart commits rows before settled before.content settled.plain)
+  says = may_says restart commits rows before may reads
 
   same : says.changes ≡ found.changes
   same = one_scan restart (before.content the_log) says.changes found.changes says.scan scan
@@ -101,28 +106,38 @@ module _ (show : OpensShow) (restart : Restart) (commits : ℕ) (rows : List Row
   its_count : commits ≡ commits_by restart found.changes
   its_count = says.commits_are ∙ ap (commits_by restart) same
 
-  table_file_away : (what : CellKind) (table : ℕ) → same_file the_log (table_file what table) ≡ false
-  table_file_away kind.Header table = refl
-  table_file_away kind.Slot table = refl
-  table_file_away kind.Pointer table = refl
-
-  segment_away : (segment : ℕ) → 2 ≤ segment → same_file the_log (Xlog segment) ≡ false
-  segment_away segment past = grind (arith, nat_tests)
-
   was : IsBeside restart before.content
-  was = image_beside restart commits rows before settled before.content settled.plain
+  was = may_beside restart commits rows before may reads
+
+  from : IsFromStart restart
+  from = was.one.begins restart was.picked
+
+  -- the restart files read as they did
+  abbrev PicksBefore : Restart → Type 0
+  PicksBefore other = IsPicked (before.content (RestartFile 0)) (before.content (RestartFile 1)) other
+
+  abbrev PicksNow : Restart → Type 0
+  PicksNow other = IsPicked (now.content (RestartFile 0)) (now.content (RestartFile 1)) other
+
+  picks_before : (other : Restart) → PicksNow other → PicksBefore other
+  picks_before other picked =
+      subst (λ (b : List ℕ). IsPicked (before.content (RestartFile 0)) b other) (left.others_content (RestartFile 1) refl)
+      (subst (λ (a : List ℕ). IsPicked a (now.content (RestartFile 1)) other) (left.others_content (RestartFile 0) refl) picked)
+
+  picks_now : (other : Restart) → PicksBefore other → PicksNow other
+  picks_now other picked =
+      subst (λ (b : List ℕ). IsPicked (now.content (RestartFile 0)) b other) (sym (left.others_content (RestartFile 1) refl))
+      (subst (λ (a : List ℕ). IsPicked a (before.content (RestartFile 1)) other) (sym (left.others_content (RestartFile 0) refl)) picked)
 
   beside : IsBeside restart now.content
-  beside =
-      let first = left.others_content (RestartFile 0) refl in
-      let second = left.others_content (RestartFile 1) refl in
-      record {
-        picked = subst (λ (b : List ℕ). IsPicked (now.content (RestartFile 0)) b restart) (sym second)
-            (subst (λ (a : List ℕ). IsPicked a (before.content (RestartFile 1)) restart) (sym first) was.picked);
-        from_start = was.from_start;
-        others = λ segment past. left.others_content (Xlog segment) (segment_away segment past) ∙ was.others segment past;
-        no_cells = λ what table. left.others_content (table_file what table) (table_file_away what table) ∙ was.no_cells what table;
-      }
+  beside = record {
+    picked = picks_now restart was.picked;
+    one = record {
+      cells = λ what table. left.others_content (table_file what table) (table_file_away what table) ∙ was.one.cells what table;
+      segments = λ segment past. left.others_content (Xlog segment) (segment_away segment past) ∙ was.one.segments segment past;
+      begins = λ other picked. was.one.begins other (picks_before other picked);
+    };
+  }
 
   scanned : Scans restart (now.content the_log) found.changes
   unfolding log_text
@@ -135,19 +150,19 @@ module _ (show : OpensShow) (restart : Restart) (commits : ℕ) (rows : List Row
   }
 
   none : HasNoCells now
-  none what table = (left.others (table_file what table) (table_file_away what table) ∙ (settled.no_cells what table).0, beside.no_cells what table)
+  none what table = (left.others (table_file what table) (table_file_away what table) ∙ may.alone.tables what table, beside.one.cells what table)
 
   images : (name : FileName) → IsImage (now.now.files name) (now.content name)
   images name = by_name (same_file the_log name) refl
     where
       here : IsImage (now.now.files the_log) (now.content the_log)
-      here = subst (λ (f : FileState). IsImage f (now.content the_log)) (sym (left.this ∙ ap at_rest (sym left.content))) (rest_is_image (now.content the_log))
+      here = subst (λ (f : FileState). IsImage f (now.content the_log)) (sym (left.this ∙ ap at_rest (sym left.content))) (image_at_rest (now.content the_log))
 
       by_name : (b : Bool) → same_file the_log name ≡ b → IsImage (now.now.files name) (now.content name)
       by_name true is = subst (λ (n : FileName). IsImage (now.now.files n) (now.content n)) (same_file_is the_log name is) here
       by_name false apart =
           subst (λ (f : FileState). IsImage f (now.content name)) (sym (left.others name apart))
-          (subst (λ (c : List ℕ). IsImage (before.now.files name) c) (sym (left.others_content name apart)) (settled.plain.each name))
+          (subst (λ (c : List ℕ). IsImage (before.now.files name) c) (sym (left.others_content name apart)) (reads name))
 
   pub found_rests : Rests restart commits rows found now
   found_rests = record {
@@ -157,17 +172,17 @@ module _ (show : OpensShow) (restart : Restart) (commits : ℕ) (rows : List Row
       shows = shows;
       number = has.next.unnamed;
       valid = record {
-        first = settled.valid.first;
-        second = settled.valid.second;
-        first_rests = left.others (RestartFile 0) refl ∙ settled.valid.first_rests;
-        second_rests = left.others (RestartFile 1) refl ∙ settled.valid.second_rests;
-        picked = settled.valid.picked;
+        first = may.valid.first;
+        second = may.valid.second;
+        first_rests = left.others (RestartFile 0) refl ∙ may.valid.first_rests;
+        second_rests = left.others (RestartFile 1) refl ∙ may.valid.second_rests;
+        picked = may.valid.picked;
       };
       segment = record {
-        known = settled.from_start.first;
-        segment = settled.from_start.segment;
-        first = settled.from_start.first;
-        others = λ segment past. left.others (Xlog segment) (segment_away segment past) ∙ settled.others segment past;
+        known = from.first;
+        segment = from.segment;
+        first = from.first;
+        others = λ segment past. left.others (Xlog segment) (segment_away segment past) ∙ may.alone.segments segment past;
       };
       log = left.this ∙ ap at_rest (sym left.content);
       files = no_cells_rest (reading_of restart found has rows) now none;
@@ -175,6 +190,8 @@ module _ (show : OpensShow) (restart : Restart) (commits : ℕ) (rows : List Row
     };
     commits_are = its_count;
     logged = logged;
+    tables = λ what table. (none what table).0;
+    redo = from.redo;
   }
 
 -- ---- it has a life
@@ -223,26 +240,24 @@ tidied_goes_on works restart count rows found s rests least marks now lasts =
 
 -- ---- meanwhile
 
-abbrev pub CrashLeaves : Type 0
-CrashLeaves = (parts : Parts) (least : ℕ) (m : Machine) (life : Life) (restart : Restart) (marks : Marks) (now : Moment) (image : Contents)
-    → Lasts parts least m life restart marks now → IsPlainImage now image → HasBetween parts least (commits m) m image
+-- while the machine that starts in what was found does nothing, all stands for that
+abbrev pub FoundStands : Type 0
+FoundStands = (found : standing.Found) (life : Life) (restart : Restart) (marks : Marks) (now : Moment)
+    → Lasts no_parts found.commits (standing.machine_of found) life restart marks now → ImagesStandFor found.commits found.rows now
 
-pub life_stands : CrashLeaves → (restart : Restart) (count : ℕ) (rows : List Row) (base : ℕ) (life : Life) (marks : Marks) (now : Moment)
-    → Lasts no_parts count (machine_of restart count rows base) life restart marks now → (image : Contents) → IsPlainImage now image → StandsFor no_parts image count rows
-life_stands crash restart count rows base life marks now lasts image plain =
-    let m = machine_of restart count rows base in
-    let between = crash no_parts count m life restart marks now image lasts plain in
-    let all : between.count ≡ count = omega (arith, between.no_less, between.no_more, fresh_commits restart.tables restart.short rows count base) in
-    subst (λ (n : ℕ). StandsFor no_parts image n rows) all
-    (subst (λ (r : List Row). StandsFor no_parts image between.count r) (fresh_published restart.tables restart.short rows count base (between.count - m.before)) between.stands)
-
-pub still_stands : CrashLeaves → (restart : Restart) (count : ℕ) (rows : List Row) (base : ℕ) (before now : Moment)
+still_stands : FoundStands → (restart : Restart) (count : ℕ) (rows : List Row) (base : ℕ) (before now : Moment)
     → LastsStill no_parts count (machine_of restart count rows base) restart before now → KeepsStanding count rows before now
-still_stands crash restart count rows base before now still = record {
-  images = life_stands crash restart count rows base still.life still.marks now still.lasts;
+still_stands stand restart count rows base before now still = record {
+  images = stand (record { tables = restart.tables; short = restart.short; rows = rows; commits = count; base = base; redone = 0; frames = 0 }) still.life restart still.marks now still.lasts;
   told = still.told;
   telling = still.telling;
 }
+
+-- no table file gets a byte while only the log is written
+pub still_empty : (old new : State) → EachMoment (OnFile the_log old.now (λ file. ⊤)) old new → HasEmptyTables old.now → HasEmptyTables new.now
+still_empty old new alone empty what table =
+    last_moment (λ (m : Moment). m.files (table_file what table) ≡ at_rest []) old new (empty what table)
+    (weaker_moments (λ m on. on.others (table_file what table) (table_file_away what table) ∙ empty what table) alone)
 
 -- ---- what the laws of this crate say of it
 
@@ -251,15 +266,15 @@ HasItsLife = (restart : Restart) (count : ℕ) (rows : List Row) (found : Found)
     → let read = reading_of restart found rests.has rows in
     HasLife no_parts count (machine_of restart count rows (found.next - 1)) (life_of read s.content) restart (marks_of read) (opening s found.held found.log)
 
-abbrev pub LastsStand : Type 0
-LastsStand = (restart : Restart) (count : ℕ) (rows : List Row) (base : ℕ) (before now : Moment)
-    → LastsStill no_parts count (machine_of restart count rows base) restart before now → KeepsStanding count rows before now
-
 abbrev pub GoesOn : Type 0
 GoesOn = (restart : Restart) (count : ℕ) (rows : List Row) (found : Found) (s : State) (rests : Rests restart count rows found s) (least : ℕ) (marks : Marks) (now : Moment)
     → let life = life_of (reading_of restart found rests.has rows) s.content in
     Lasts no_parts least (machine_of restart count rows (found.next - 1)) (tidied restart life) restart marks now
     → Works no_parts (machine_of restart count rows (found.next - 1)) (tidied restart life) restart
+
+abbrev pub CanFind : Type 0
+CanFind = (files : Files) (read : Reading) (now : Moment) → IsReadIn files read → HasEmptyTables now → read.restart.redo ≡ 0
+    → CanBeFound (standing.machine_of (found_in read)) (tidied read.restart (life_of read files)) read.restart now
 
 -- ---- the tidying
 
@@ -273,29 +288,35 @@ module _ (restart : Restart) (count : ℕ) (rows : List Row) (found : Found) (s 
   abbrev its_machine : Machine
   its_machine = machine_of restart count rows (found.next - 1)
 
-  pub tidy_stands : {tells : Type 0} (new : Opening) → HasItsLife → LastsStand
+  pub tidy_stands : {tells : Type 0} (new : Opening) → HasItsLife → FoundStands
       → LastsThrough tells (store_of restart found.changes found.next rests.has.holds.found rests.has.holds.layouts) (opening s found.held found.log) new
       → tells → EachMoment (KeepsStanding count rows s.now) s new.site
   tidy_stands new has stand through t =
-      weaker_moments (λ now still. stand restart count rows (found.next - 1) s.now now still)
+      weaker_moments (λ now still. still_stands stand restart count rows (found.next - 1) s.now now still)
       (through t no_parts count its_machine its_life restart (marks_of its_read) (its_last restart count rows found s can rests) (has restart count rows found s can rests))
 
   -- who is done in the last store of its life
   pub its_done : (done : Done) → done ≡ done_by restart found.changes → (last_store (life_of (reading_of restart found rests.has rows) s.content)).done ≡ done
   its_done done is = ap (λ (store : Store). store.done) (its_last restart count rows found s can rests) ∙ done_there restart found rests.has can ∙ sym is
 
-  pub works_from : (marks : Marks) (number redone : ℕ) (now : State) (held : HeldTables) (log : Log) → GoesOn → number ≡ commits_by restart found.changes
+  reads : IsReadIn s.content (reading_of restart found rests.has rows)
+  reads = record { finds = rests.is_found.finds; shows = rests.is_found.shows; number = rests.has.next }
+
+  pub works_from : (marks : Marks) (number redone : ℕ) (now : State) (held : HeldTables) (log : Log) → GoesOn → CanFind → HasEmptyTables now.now
+      → number ≡ commits_by restart found.changes
       → marks.durable ≡ end_of (tidied restart (life_of (reading_of restart found rests.has rows) s.content))
       → HasLife no_parts (commits (machine_of restart count rows (found.next - 1))) (machine_of restart count rows (found.next - 1))
       (tidied restart (life_of (reading_of restart found rests.has rows) s.content)) restart marks (opening now held log)
       → WorksFrom restart count rows now (record { held = held; log = log; base = found.next - 1; commits = number; redone = redone })
-  works_from marks number redone now held log goes number_is durable has = record {
+  works_from marks number redone now held log goes can_find empty number_is durable has = record {
     commits_are = number_is ∙ sym rests.commits_are;
     life = tidied restart its_life;
     marks = marks;
     has = subst (λ (n : ℕ). HasLife no_parts n its_machine (tidied restart its_life) restart marks (opening now held log))
         (fresh_commits restart.tables restart.short rows count (found.next - 1)) has;
     works = goes restart count rows found s rests (commits its_machine) marks now.now has.lasts;
+    found = subst (λ (n : ℕ). CanBeFound (machine_of restart n rows (found.next - 1)) (tidied restart its_life) restart now.now) (sym rests.commits_are)
+        (can_find s.content its_read now.now reads empty rests.redo);
     durable = (
         let known = has.lasts.segment.known in
         let frames = has.logged.count in
@@ -341,6 +362,7 @@ opens_as restart bytes found now cells scan is =
       found = holds.found;
       layouts = holds.layouts;
       opens = holds.opens;
+      stored = is.was.stored;
       next = subst (λ (n : ℕ). IsNext restart found.changes holds.found holds.layouts n) (sym is.base) is.was.next;
       has = subst (λ (n : ℕ). HasStore (tidied_store restart.tables (store_of restart found.changes n holds.found holds.layouts)) (opening now cells.held cells.log)) (sym is.base) is.has;
       frames = is.frames ∙ ap (λ (n : ℕ). n + tidied_count restart.tables (store_of restart found.changes found.next holds.found holds.layouts)) is.was.frames

@@ -1,9 +1,8 @@
 pub mod Numbers
 pub mod One
 pub mod Tables
-pub mod Segments
+pub mod NoCells
 pub mod Standing
 pub mod Beginning
 pub mod Refusals
 pub mod Sound
-pub mod Settling

@@ -1,5 +1,5 @@
--- The causes of errors, and that a store that stands has no damage.
-use Rattle.std.proofs.Common.{◌≡◌, ℕ, false, List, refl, sym, subst, arith, inl, inr}
+-- The causes of errors, what they say of the log, and what they leave.
+use Rattle.std.proofs.Common.{◌≡◌, ℕ, ◌+◌, false, List, length, refl, sym, subst, arith, inl, inr}
 use Rattle.std.specs.Prelude.{IfErr, Result, Ok, Err}
 use Rattle.px_change.specs.declared.change.Change.{Change}
 use Rattle.px_held.specs.Errors as held
@@ -9,7 +9,7 @@ use Rattle.px_held.specs.declared.error.HeldError.TheVariants as held_errors
 use Rattle.px_history.specs.Store.{Store}
 use Rattle.px_laid.specs.Places.{none_laid}
 use Rattle.px_log.specs.Contents.{Scans}
-use Rattle.px_log.specs.Errors.{CountsLogFault, HasOpenCause, LeavesSite}
+use Rattle.px_log.specs.Errors.{CountsLogFault, HasOpenCause, IsOfSite}
 use Rattle.px_log.specs.declared.error.LogOpenError.{LogOpenError}
 use Rattle.px_log.specs.declared.error.LogOpenError.TheVariants as log_errors
 use Rattle.px_opened.specs.Damage.{IsErrorIn}
@@ -20,12 +20,15 @@ use Rattle.px_restart.specs.declared.restart.Restart.{Restart}
 use Rattle.px_shown.specs.Tables.{Layouts, Tables}
 use Rattle.px_site.specs.Cause.{Counts, NoneFell, Rose}
 use Rattle.px_site.specs.State.{State}
+use Rattle.px_tidy.specs.Steps.{tidying_tables}
 use Rattle.px_tidying.specs.Errors as tidying
 use Rattle.px_tidying.specs.Numbers.{IsUnstoredIn}
 use Rattle.px_tidying.specs.declared.error.TidyError.{TidyError}
 use Rattle.px_tidying.specs.declared.error.TidyError.TheVariants as tidy_errors
-use Rattle.px_cell_opening.specs.Found.{HoldsTables}
-use Rattle.px_cell_opening.specs.Errors.{HasCellsCause, HasRefusal, IsCut, IsPassing, LeavesFiles, of_held, of_log, of_tables, of_tidying}
+use Rattle.px_cell_opening.specs.Found.{HasFound, HoldsTables}
+use Rattle.px_cell_opening.specs.Errors.{HasCellsCause, HasRefusal, IsPassing, LeavesDamaged, of_held, of_log, of_tables, of_tidying}
+use Rattle.px_cell_opening.specs.Opened.{store_of}
+use Rattle.px_cell_opening.specs.declared.opening.Found.{Found}
 use Rattle.px_cell_opening.specs.declared.error.CellsError.{CellsError}
 use Rattle.px_cell_opening.specs.declared.error.CellsError.TheVariants.{OutOfMemory, Fault, LogFull, Damaged}
 
@@ -62,6 +65,11 @@ pub earlier_if : {T : Type 0} (r : Result T CellsError) (old middle new : Counts
 earlier_if (Ok x) old middle new fell cause = tt
 earlier_if (Err e) old middle new fell cause = earlier_cause old middle new e fell cause
 
+pub open_cause : (old new : Counts) (e : LogOpenError) → IsOfSite old new e → HasCellsCause old new (of_log e)
+open_cause old new log_errors.OutOfMemory cause = tt
+open_cause old new (log_errors.Fault fault) cause = cause
+open_cause old new (log_errors.Damaged file place) cause = absurd cause
+
 -- ---- refusals
 
 pub log_refusal : (restart : Restart) (bytes : List ℕ) (old new : Counts) (e : LogOpenError) → HasOpenCause restart bytes old new e → HasRefusal restart bytes (of_log e)
@@ -97,29 +105,48 @@ tidy_passes (tidy_errors.Fault fault) passes = tt
 tidy_passes (tidy_errors.LogFull frame) passes = tt
 tidy_passes (tidy_errors.Damaged file place) passes = passes
 
--- what only passes says nothing of the files
-pub passing_refusal : (restart : Restart) (bytes : List ℕ) (e : CellsError) → IsPassing e → HasRefusal restart bytes e
-passing_refusal restart bytes OutOfMemory passes = tt
-passing_refusal restart bytes (Fault fault) passes = tt
-passing_refusal restart bytes (LogFull frame) passes = tt
-passing_refusal restart bytes (Damaged file place) passes = absurd passes
+-- the tidying's LogFull names one of the frames in which what nobody will see was to be unlinked
+pub tidy_refusal : (restart : Restart) (bytes : List ℕ) (found : Found) (has : HasFound restart found) (old new : Counts) (e : TidyError) → Scans restart bytes found.changes
+    → tidying.IsPassing e → tidying.HasTidyCause old new e
+    → let store = store_of restart found.changes found.next has.holds.found has.holds.layouts in
+    tidying.IsFullWithin found.log.frames (found.log.frames + length (tidying_tables store restart.tables)) e → HasRefusal restart bytes (of_tidying e)
+tidy_refusal restart bytes found has old new tidy_errors.OutOfMemory scan passes cause full = tt
+tidy_refusal restart bytes found has old new (tidy_errors.Fault fault) scan passes cause full = tt
+tidy_refusal restart bytes found has old new (tidy_errors.LogFull frame) scan passes cause full = record {
+  changes = found.changes;
+  scan = scan;
+  found = has.holds.found;
+  layouts = has.holds.layouts;
+  opens = has.holds.opens;
+  next = found.next;
+  is_next = has.next;
+  none_left = cause;
+  below = omega (arith, full.1, has.frames);
+}
+tidy_refusal restart bytes found has old new (tidy_errors.Damaged file place) scan passes cause full = absurd passes
+
+-- a call that opens the log behind what was read of it finds no damage
+pub open_refusal : (restart : Restart) (bytes : List ℕ) (old new : Counts) (e : LogOpenError) → IsOfSite old new e → HasRefusal restart bytes (of_log e)
+open_refusal restart bytes old new log_errors.OutOfMemory is = tt
+open_refusal restart bytes old new (log_errors.Fault fault) is = tt
+open_refusal restart bytes old new (log_errors.Damaged file place) is = absurd is
 
 -- ---- what an error leaves
 
-pub log_leaves : (restart : Restart) (old new : State) (counts more : Counts) (e : LogOpenError) → LeavesSite old new counts more e → LeavesFiles restart old new (of_log e)
-log_leaves restart old new counts more log_errors.OutOfMemory leaves = tt
-log_leaves restart old new counts more (log_errors.Fault fault) leaves = tt
-log_leaves restart old new counts more (log_errors.Damaged file place) leaves = inl leaves
+pub same_leaves : (old new : State) (e : CellsError) → new ≡ old → LeavesDamaged old new e
+same_leaves old new OutOfMemory same = tt
+same_leaves old new (Fault fault) same = tt
+same_leaves old new (LogFull frame) same = tt
+same_leaves old new (Damaged file place) same = same
 
-pub cut_leaves : (restart : Restart) (old new : State) (e : CellsError) → IsCut restart old new → LeavesFiles restart old new e
-cut_leaves restart old new OutOfMemory cut = tt
-cut_leaves restart old new (Fault fault) cut = tt
-cut_leaves restart old new (LogFull frame) cut = tt
-cut_leaves restart old new (Damaged file place) cut = inr cut
+pub open_leaves : (a b : State) (old new : Counts) (e : LogOpenError) → IsOfSite old new e → LeavesDamaged a b (of_log e)
+open_leaves a b old new log_errors.OutOfMemory is = tt
+open_leaves a b old new (log_errors.Fault fault) is = tt
+open_leaves a b old new (log_errors.Damaged file place) is = absurd is
 
-pub passing_leaves : {T : Type 0} (restart : Restart) (old new : State) (r : Result T CellsError) → IfErr r IsPassing → IfErr r (LeavesFiles restart old new)
-passing_leaves restart old new (Ok x) passes = tt
-passing_leaves restart old new (Err OutOfMemory) passes = tt
-passing_leaves restart old new (Err (Fault fault)) passes = tt
-passing_leaves restart old new (Err (LogFull frame)) passes = tt
-passing_leaves restart old new (Err (Damaged file place)) passes = absurd passes
+pub passing_leaves : {T : Type 0} (old new : State) (r : Result T CellsError) → IfErr r IsPassing → IfErr r (LeavesDamaged old new)
+passing_leaves old new (Ok x) passes = tt
+passing_leaves old new (Err OutOfMemory) passes = tt
+passing_leaves old new (Err (Fault fault)) passes = tt
+passing_leaves old new (Err (LogFull frame)) passes = tt
+passing_leaves old new (Err (Damaged file place)) passes = absurd passes

@@ -3,7 +3,6 @@ use Rattle.std.proofs.Common.{ℕ, All, List, map, subst, inl, inr}
 use Rattle.std.specs.Prelude.{Contains}
 use Rattle.std.proofs.lemmas.List.Elements.{All-cons, All-contains, All-head, All-nil, All-tail}
 use Rattle.std.specs.Prelude.{[], ◌∷◌}
-use Rattle.px_apply.specs.Contents.{Contents}
 use Rattle.px_cells.specs.declared.slot.Slot.{Slot}
 use Rattle.px_change.specs.declared.change.Change.{Change}
 use Rattle.px_history.specs.Fitting.{IsStoredNumber}
@@ -16,12 +15,13 @@ use Rattle.px_opened.specs.Opened.{IsSameLayout, IsSameTable, Opens, changes_ove
 use Rattle.px_restart.specs.declared.restart.Restart.{Restart}
 use Rattle.px_shown.specs.Tables.{Layouts, Tables}
 use Rattle.px_site.specs.declared.name.FileName.{FileName}
+use Rattle.px_standing.specs.Standing.{Files}
 use Rattle.px_tidying.specs.Numbers.{IsUnstoredIn}
 use Rattle.px_xlog.specs.Contents.{the_log}
 use Rattle.px_cell_opening.proofs.One.{no_log_damage, one_scan}
-use Rattle.px_cell_opening.proofs.Standing.{says_of}
+use Rattle.px_cell_standing.specs.Standing.{StandsFor}
+use Rattle.px_cell_opening.proofs.Standing.{IsBeside, says_of}
 use Rattle.px_cell_opening.specs.Errors.{HasRefusal, IsPassing}
-use Rattle.px_cell_opening.specs.Settled.{StandsFrom}
 use Rattle.px_cell_opening.specs.declared.error.CellsError.{CellsError}
 use Rattle.px_cell_opening.specs.declared.error.CellsError.TheVariants.{OutOfMemory, Fault, LogFull, Damaged}
 
@@ -62,13 +62,13 @@ module _ (one_table : OneTable) (one_layout : OneLayout) (short tables : ℕ) (p
 
 -- ---- no damage
 
-pub only_passes : OneTable → OneLayout → NoDamage → (restart : Restart) (commits : ℕ) (rows : List Row) (files : Contents) (e : CellsError) → StandsFrom restart commits rows files
-    → HasRefusal restart (files the_log) e → IsPassing e
-only_passes one_table one_layout no_damage restart commits rows files OutOfMemory stands refusal = tt
-only_passes one_table one_layout no_damage restart commits rows files (Fault fault) stands refusal = tt
-only_passes one_table one_layout no_damage restart commits rows files (LogFull frame) stands refusal = tt
-only_passes one_table one_layout no_damage restart commits rows files (Damaged file place) stands refusal =
-    let says = says_of restart commits rows files stands in
+pub only_passes : OneTable → OneLayout → NoDamage → (restart : Restart) (commits : ℕ) (rows : List Row) (files : Files) (e : CellsError) → IsBeside restart files
+    → StandsFor files commits rows → HasRefusal restart (files the_log) e → IsPassing e
+only_passes one_table one_layout no_damage restart commits rows files OutOfMemory beside stands refusal = tt
+only_passes one_table one_layout no_damage restart commits rows files (Fault fault) beside stands refusal = tt
+only_passes one_table one_layout no_damage restart commits rows files (LogFull frame) beside stands refusal = tt
+only_passes one_table one_layout no_damage restart commits rows files (Damaged file place) beside stands refusal =
+    let says = says_of restart commits rows files beside stands in
     elim refusal as (λ _. ⊥) [
       | inl damaged ↦ no_log_damage restart (files the_log) says.changes place says.scan damaged.damage
       | inr others ↦ elim others as (λ _. ⊥) [

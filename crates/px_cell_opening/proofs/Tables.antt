@@ -15,7 +15,10 @@ use Rattle.px_history.specs.Store.{Store}
 use Rattle.px_laid.specs.Places.{none_laid}
 use Rattle.px_life.specs.Found.{counted_table, counted_tables}
 use Rattle.px_life.specs.Front.{AreStored}
+use Rattle.px_log.specs.Log.{Log}
 use Rattle.px_log.specs.MayStand.{MayStand}
+use Rattle.px_log.specs.Scanned.{IsScan, log_of}
+use Rattle.px_log.specs.declared.reader.LogScan.{LogScan}
 use Rattle.px_model.specs.declared.limits.TheConstants.{STORED_NUMBERS_END}
 use Rattle.px_opened.proofs.Numbers.{table_or_not}
 use Rattle.px_opened.proofs.One.{all_sound}
@@ -97,31 +100,30 @@ still_held short tables changes before now old new form keeps holds = record {
 abbrev any_store : Tables → Layouts → Store
 any_store found layouts = record { tables = found; layouts = layouts; done = λ xn. false; over = λ xn. false }
 
-pub found_is : (restart : Restart) (slice other : List Change) (before : HeldTables) (found : Found) (old new : State) → slice ≡ found.changes → other ≡ found.changes
+pub found_is : (restart : Restart) (scan : LogScan) (slice other : List Change) (before : HeldTables) (found : Found) (old new : State) → IsScan restart scan
+    → found.changes ≡ scan.changes → found.log ≡ log_of restart scan → slice ≡ scan.changes → other ≡ scan.changes
     → HoldsTables restart.short restart.tables slice before → HasSameForm before found.held
     → ((store : Store) → Serves old before store → Serves new found.held store)
     → ((store : Store) → Serves old before store → IsNext restart other store.tables store.layouts found.next)
-    → ((store : Store) → Serves old before store → AreStored store.tables store.layouts)
-    → found.next ≤ STORED_NUMBERS_END → MayStand restart.tables 0 restart.short found.changes → found.log.frames ≡ length found.changes → found.log.frames ≤ 2 ^ 48
-    → restart.durable ≤ found.log.frames → (found.log.tables ≡ restart.tables) × (found.log.short ≡ restart.short) × (found.log.durable ≡ found.log.frames)
-    → HasFound restart found
+    → ((store : Store) → Serves old before store → AreStored store.tables store.layouts) → found.next ≤ STORED_NUMBERS_END → HasFound restart found
 unfolding still_held
-found_is restart slice other before found old new slice_is other_is holds form keeps next stored end stand frames room reached marks =
-    let held : HoldsTables restart.short restart.tables found.changes before = subst (λ (l : List Change). HoldsTables restart.short restart.tables l before) slice_is holds in
+found_is restart scan slice other before found old new is changes_are log_is slice_is other_is holds form keeps next stored end =
+    let held : HoldsTables restart.short restart.tables found.changes before =
+    subst (λ (l : List Change). HoldsTables restart.short restart.tables l before) (slice_is ∙ sym changes_are) holds in
     let store = any_store held.found held.layouts in
     let serves = held.serves old store refl refl in
     record {
       holds = still_held restart.short restart.tables found.changes before found.held old new form keeps held;
-      next = subst (λ (l : List Change). IsNext restart l held.found held.layouts found.next) other_is (next store serves);
+      next = subst (λ (l : List Change). IsNext restart l held.found held.layouts found.next) (other_is ∙ sym changes_are) (next store serves);
       stored = stored store serves;
       end = end;
-      stand = stand;
-      frames = frames;
-      room = room;
-      reached = reached;
-      durable = marks.2;
-      log_tables = marks.0;
-      log_short = marks.1;
+      stand = subst (MayStand restart.tables 0 restart.short) (sym changes_are) is.held;
+      frames = ap (λ (l : Log). l.frames) log_is ∙ is.count ∙ ap (λ (l : List Change). length l) (sym changes_are);
+      room = subst (λ (l : Log). l.frames ≤ 2 ^ 48) (sym log_is) is.below;
+      reached = subst (λ (l : Log). restart.durable ≤ l.frames) (sym log_is) is.reached;
+      durable = subst (λ (l : Log). l.durable ≡ l.frames) (sym log_is) refl;
+      log_tables = ap (λ (l : Log). l.tables) log_is;
+      log_short = ap (λ (l : Log). l.short) log_is;
     }
 
 -- ---- the store

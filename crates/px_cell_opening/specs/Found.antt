@@ -16,6 +16,7 @@ use Rattle.px_restart.specs.declared.restart.Restart.{Restart}
 use Rattle.px_shown.specs.Parts.{no_parts}
 use Rattle.px_shown.specs.Tables.{Layouts, Tables}
 use Rattle.px_site.specs.State.{State}
+use Rattle.px_cell_standing.specs.Settled.{HasEmptyTables}
 use Rattle.px_cell_opening.specs.declared.opening.Found.{Found}
 
 -- In a store with so many tables and that short length, what is held are the tables to which the cells of the changes open.
@@ -54,9 +55,11 @@ reading_of restart found has rows = record {
   next = found.next;
 }
 
--- On the site it is found so: the files rest, and stand for these commits and rows.
+-- On the site it is found so: the files rest, and stand for these commits and rows. No table file has a byte, and all frames were laid.
 pub record Rests (restart : Restart) (commits : ℕ) (rows : List Row) (found : Found) (s : State) : Type 0 where
   pub has : HasFound restart found
   pub is_found : IsFound no_parts (reading_of restart found has rows) s
   pub commits_are : commits ≡ commits_by restart found.changes
   pub logged : IsLogOf found.log found.changes s
+  pub tables : HasEmptyTables s.now
+  pub redo : restart.redo ≡ 0

@@ -1,4 +1,3 @@
 pub mod Errors
 pub mod Found
 pub mod Opened
-pub mod Settled

@@ -1,33 +1,34 @@
-ghost use Rattle.std.specs.Prelude.{◌<◌, ◌≤◌, ⊤, ℕ, IfErr, IfOk, List, OnOk};
+ghost use Rattle.std.specs.Prelude.{◌<◌, ◌≤◌, ⊤, ℕ, IfErr, IfOk, List};
 ghost use Rattle.px_history.specs.Store.{Store};
+ghost use Rattle.px_laid.specs.Places.{none_laid};
 ghost use Rattle.px_log.specs.Contents.{Scans, log_text};
 ghost use Rattle.px_log.specs.Log.{IsLogOf, OnlyGrew, ReadsAsBefore};
 ghost use Rattle.px_model.specs.declared.limits.TheConstants.{STORED_NUMBERS_END};
 ghost use Rattle.px_model.specs.declared.row.Row.{Row};
 ghost use Rattle.px_opened.specs.Damage.{IsErrorIn};
 ghost use Rattle.px_opened.specs.Opened.{changes_over};
-ghost use Rattle.px_laid.specs.Places.{none_laid};
 ghost use Rattle.px_restart.specs.Restart.{CanRestart};
 ghost use Rattle.px_site.specs.Cause.{NoneFell};
 ghost use Rattle.px_site.specs.Disk.{at_rest};
 ghost use Rattle.px_site.specs.State.{EachMoment, OnFile, Stands};
 ghost use Rattle.px_tidying.specs.Opening.{HasStore, opening};
 ghost use Rattle.px_xlog.specs.Contents.{the_log};
-ghost use Rattle.px_cell_opening.specs.Errors.{HasCellsCause, HasRefusal, IsFileFault, IsPassing, LeavesFiles};
+ghost use Rattle.px_cell_standing.specs.Images.{KeepsStanding};
+ghost use Rattle.px_cell_standing.specs.Settled.{Settled};
+ghost use Rattle.px_cell_opening.specs.Errors.{HasCellsCause, HasRefusal, IsFileFault, IsPassing, LeavesDamaged};
 ghost use Rattle.px_cell_opening.specs.Found.{HasFound, HoldsTables, Rests};
-ghost use Rattle.px_cell_opening.specs.Opened.{IsTidiedOf, OpensAs, WorksFrom};
-ghost use Rattle.px_cell_opening.specs.Settled.{KeepsStanding, Settled, StandsFrom};
+ghost use Rattle.px_cell_opening.specs.Opened.{IsTidiedOf, MayOpen, OpensAs, WorksFrom};
 
 use crate::counts::{commits_of, redone_of};
 use crate::error::CellsError;
 use crate::laws::{
-    a_cut_leaves_what_stands, tables_that_open_may_be_tidied, what_lasts_stands,
-    what_stands_has_no_damage, what_was_found_rests, what_was_opened_is_settled,
+    tables_that_open_may_be_tidied, what_stands_has_no_damage, what_was_found_rests,
     what_was_read_has_its_life, what_was_tidied_goes_on,
 };
+use px_cell_standing::{a_cut_leaves_what_stands, what_lasts_stands, what_was_opened_can_be_found};
 use px_change::Change;
 use px_held::Held;
-use px_log::{ChangeList, Xlog, open_log};
+use px_log::{ChangeList, Xlog, scan_log};
 use px_opened::{OpenedError, lay_all, open_tables};
 use px_restart::Restart;
 use px_site::Site;
@@ -77,6 +78,9 @@ pub fn open_cells<W: Site>(
     ensures cause { IfErr result (HasCellsCause (W.counts site.old) (W.counts site.new)) }
     ensures none_fell { NoneFell (W.counts site.old) (W.counts site.new) }
 {
+    what_was_found_rests();
+    a_cut_leaves_what_stands();
+    what_stands_has_no_damage();
     let found = find_cells(alloc, site, restart)?;
     tidy_found(alloc, site, restart, found)
 }
@@ -91,7 +95,7 @@ struct Found {
     next: u64,
 }
 
-/// Reads the log and cuts what is torn behind it, and finds the tables and the next number.
+/// Reads the log, and finds the tables and the next number. Then it cuts what is torn behind the log: a damaged store is left as it was.
 fn find_cells<W: Site>(alloc: Global, site: &mut W, restart: &Restart) -> Result<Found, CellsError>
     requires bounds { CanRestart restart.now }
     ensures found { IfOk result (HasFound restart.now) }
@@ -102,15 +106,16 @@ fn find_cells<W: Site>(alloc: Global, site: &mut W, restart: &Restart) -> Result
     ensures moments { W.tells → OnlyGrew ((W.state site.old).now.files the_log) ((W.state site.old).content the_log)
         → EachMoment (OnFile the_log (W.state site.old).now (ReadsAsBefore ((W.state site.old).now.files the_log))) (W.state site.old) (W.state site.new) }
     ensures refused { W.tells → IfErr result (HasRefusal restart.now ((W.state site.old).content the_log)) }
-    ensures kept { W.tells → IfErr result (LeavesFiles restart.now (W.state site.old) (W.state site.new)) }
+    ensures kept { W.tells → IfErr result (LeavesDamaged (W.state site.old) (W.state site.new)) }
     ensures log_alone { W.tells → EachMoment (OnFile the_log (W.state site.old).now (λ file. ⊤)) (W.state site.old) (W.state site.new) }
     ensures own { IfErr result IsFileFault }
     ensures cause { IfErr result (HasCellsCause (W.counts site.old) (W.counts site.new)) }
     ensures none_fell { NoneFell (W.counts site.old) (W.counts site.new) }
 {
-    let (log, changes) = open_log(alloc, site, restart)?;
-    let mut held = open_held(alloc, restart, changes.as_slice())?;
-    let next = next_number(site, &mut held, restart, changes.as_slice())?;
+    let scan = scan_log(alloc, site, restart)?;
+    let mut held = open_held(alloc, restart, scan.changes.as_slice())?;
+    let next = next_number(site, &mut held, restart, scan.changes.as_slice())?;
+    let (log, changes) = scan.open(alloc, site, restart)?;
     Ok(Found {
         log,
         held,
@@ -144,6 +149,7 @@ fn tidy_found<W: Site>(
     ensures moments { W.tells → (commits : ℕ) (rows : List Row) → Rests restart.now commits rows found (W.state site.old)
         → EachMoment (KeepsStanding commits rows (W.state site.old).now) (W.state site.old) (W.state site.new) }
     ensures tidied { IfOk result (IsTidiedOf restart.now found (W.state site.new)) }
+    ensures refused { W.tells → (bytes : List ℕ) → Scans restart.now bytes found.changes → IfErr result (HasRefusal restart.now bytes) }
     ensures sound { W.tells → IfErr result IsPassing }
     ensures log_alone { W.tells → EachMoment (OnFile the_log (W.state site.old).now (λ file. ⊤)) (W.state site.old) (W.state site.new) }
     ensures own { IfErr result IsFileFault }
@@ -154,6 +160,7 @@ fn tidy_found<W: Site>(
     what_was_read_has_its_life();
     what_was_tidied_goes_on();
     what_lasts_stands();
+    what_was_opened_can_be_found();
     let Found {
         mut log,
         mut held,

@@ -1,4 +1,5 @@
 ghost use Rattle.std.specs.Prelude.{◌≡◌, ◌+◌, ◌-◌, ◌^◌, ◌<◌, ◌≤◌, ◌↔◌, ℕ, List, Contains, length, true};
+ghost use Rattle.px_calls.specs.Steps.{is_full};
 ghost use Rattle.px_chain.specs.Sound.{IsApart, IsSound, IsUsedRow, Layout};
 ghost use Rattle.px_chain.specs.Table.{Table};
 ghost use Rattle.px_free.specs.Places.{AreFull, rows_of, slots_of};
@@ -35,7 +36,8 @@ pub fn row_pointers_last_as_long_as_slots()
 {}
 
 /// A table's versions are the slots in its chains, whose numbers are those used less those on the free list. So the table is full
-/// of versions just where its header says that no slot is left, which is where no place is left for a key of it, new or not.
+/// of versions just where its header says that no slot is left, which is where no place is left for a key of it, new or not, and
+/// where a call that writes is told that it is full.
 pub fn variations_are_the_slots_in_chains()
     ensures in_chains { (parts : Parts) (m : Machine) (store : Store) (t : ℕ) → HoldsChains parts m store → in_order m.opening ≡ true
         → variations_of_table m t ≡ slots_in_chains (store.tables t) (store.layouts t) }
@@ -47,4 +49,6 @@ pub fn variations_are_the_slots_in_chains()
     ensures no_place { (parts : Parts) (m : Machine) (store : Store) (t : ℕ) (key : List ℕ) → HoldsChains parts m store → in_order m.opening ≡ true
         → (store.tables t).header.slots < 2 ^ 32
         → (IsFull (store.tables t) key ↔ (variations_of_table m t ≡ MOST_VARIATIONS)) }
+    ensures calls { (parts : Parts) (m : Machine) (store : Store) (t : ℕ) (key : List ℕ) → HoldsChains parts m store → in_order m.opening ≡ true
+        → (store.tables t).header.slots < 2 ^ 32 → (IsFull (store.tables t) key ↔ (is_full m t ≡ true)) }
 {}

@@ -1,5 +1,5 @@
 -- What was read of a log, before what is torn behind it is cut.
-use Rattle.std.specs.Prelude.{◌≡◌, ℕ, ◌*◌, ◌^◌, ◌≤◌, length}
+use Rattle.std.specs.Prelude.{◌≡◌, ◌*◌, ◌^◌, ◌≤◌, length}
 use Rattle.px_restart.specs.declared.restart.Restart.{Restart}
 use Rattle.px_log.specs.Log.{Log}
 use Rattle.px_log.specs.MayStand.{MayStand}

@@ -20,6 +20,8 @@ mod opening;
 mod restarts;
 
 pub use error::{MakeError, OpenError};
-pub use laws::files_stand_for_one_store;
+pub use laws::{
+    files_stand_for_one_store, what_is_found_is_not_refused, what_opens_is_not_refused,
+};
 pub use making::make;
 pub use opening::{NotOpened, OpenReport, Opened, open_store};

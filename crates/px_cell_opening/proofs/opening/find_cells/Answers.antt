@@ -1,19 +1,26 @@
-use Rattle.std.proofs.Common.{List, All, subst, sym}
+use Rattle.std.proofs.Common.{List, All, subst, sym, ◌∙◌}
 use Rattle.px_change.specs.declared.change.Change.{Change}
 use Rattle.px_history.specs.Fitting.{IsStoredNumber}
+use Rattle.px_log.specs.Scanning.{ScansTo}
+use Rattle.px_site.specs.State.{State}
 use Rattle.px_tidying.proofs.Next.{if_err}
 use Rattle.px_xlog.specs.Contents.{the_log}
 use Rattle.px_cell_opening.proofs.Numbers.{all_stored}
-use Rattle.px_cell_opening.proofs.Refusals.{cut_leaves, next_refusal}
+use Rattle.px_cell_opening.proofs.Refusals.{next_refusal}
 use Rattle.px_cell_opening.proofs.Tables.{found_is}
-use Rattle.px_cell_opening.specs.Errors.{HasRefusal, IsCut, LeavesFiles, of_held, of_tables}
+use Rattle.px_cell_opening.specs.Errors.{HasRefusal, of_held}
 use Rattle.px_cell_opening.specs.declared.opening.Found.{Found}
 use Rattle.px_cell_opening.proofs.opening.find_cells.Goals as goal
 
 pub next_number-requires-clause-frames : goal.next_number-requires-clause-frames
 next_number-requires-clause-frames g c =
     subst (λ (l : List Change). All (λ change. IsStoredNumber change.xn) l) (sym c.as_slice-2.ensures)
-    (all_stored c.args.restart.now.tables 0 c.args.restart.now.short c.in_ok-log.changes c.in_ok-log.ensures.held)
+    (all_stored c.args.restart.now.tables 0 c.args.restart.now.short c.in_ok-scan.scan.changes c.in_ok-scan.ensures.log.held)
+
+pub open-requires-clause-scan : goal.open-requires-clause-scan
+open-requires-clause-scan g c = λ t.
+    subst (λ (s : State). ScansTo (s.content the_log) c.in_ok-scan.scan.changes c.in_ok-scan.scan.stop)
+    (sym (c.next_number.ensures.same t ∙ c.scan_log.ensures.same t)) (c.in_ok-scan.ensures.scan t)
 
 pub returns-in_err-next-clause-refused : goal.returns-in_err-next-clause-refused
 returns-in_err-next-clause-refused g c = λ t.
@@ -21,33 +28,14 @@ returns-in_err-next-clause-refused g c = λ t.
     let bytes = (g.W.Site.state c.args.site.now).content the_log in
     let error = c.in_err-next.field-0.0 in
     if_err c.from_residual-in_err-next.result (HasRefusal restart bytes) (of_held error) c.from_residual-in_err-next.ensures.1
-    (next_refusal restart bytes c.in_ok-log.changes c.as_slice.result.now c.in_ok-held.held (g.W.Site.state c.open_log.new.site) error (c.in_ok-log.ensures.read t)
+    (next_refusal restart bytes c.in_ok-scan.scan.changes c.as_slice.result.now c.in_ok-held.held (g.W.Site.state c.scan_log.new.site) error (c.in_ok-scan.ensures.read t)
     c.as_slice.ensures c.in_ok-held.ensures.holds (c.in_err-next.ensures.unstored t))
 
 pub returns-clause-found : goal.returns-clause-found
 returns-clause-found g c =
     let found : Found = record { log = c.in_ok-log.log; held = c.next_number.new.held; changes = c.in_ok-log.changes; next = c.in_ok-next.next } in
     let state = g.W.Site.state in
-    let log = c.in_ok-log.ensures in
     let next = c.in_ok-next.ensures in
-    found_is c.args.restart.now c.as_slice.result.now c.as_slice-2.result.now c.in_ok-held.held found (state c.open_log.new.site) (state c.next_number.new.site)
-    c.as_slice.ensures c.as_slice-2.ensures c.in_ok-held.ensures.holds next.form next.keeps next.next next.stored next.end log.held log.count log.below log.reached log.marks
-
-pub returns-in_err-next-clause-kept : goal.returns-in_err-next-clause-kept
-returns-in_err-next-clause-kept g c = λ t.
-    let restart = c.args.restart.now in
-    let old = g.W.Site.state c.args.site.now in
-    let error = c.in_err-next.field-0.0 in
-    if_err c.from_residual-in_err-next.result (LeavesFiles restart old (g.W.Site.state c.next_number.new.site)) (of_held error) c.from_residual-in_err-next.ensures.1
-    (cut_leaves restart old (g.W.Site.state c.next_number.new.site) (of_held error)
-    (subst (IsCut restart old) (sym (c.next_number.ensures.same t))
-    (record { changes = c.in_ok-log.changes; scan = c.in_ok-log.ensures.read t; left = c.in_ok-log.ensures.left t })))
-
-pub returns-in_err-held-clause-kept : goal.returns-in_err-held-clause-kept
-returns-in_err-held-clause-kept g c = λ t.
-    let restart = c.args.restart.now in
-    let old = g.W.Site.state c.args.site.now in
-    let error = c.in_err-held.field-0.0 in
-    if_err c.from_residual-in_err-held.result (LeavesFiles restart old (g.W.Site.state c.open_log.new.site)) (of_tables error) c.from_residual-in_err-held.ensures.1
-    (cut_leaves restart old (g.W.Site.state c.open_log.new.site) (of_tables error)
-    (record { changes = c.in_ok-log.changes; scan = c.in_ok-log.ensures.read t; left = c.in_ok-log.ensures.left t }))
+    found_is c.args.restart.now c.in_ok-scan.scan c.as_slice.result.now c.as_slice-2.result.now c.in_ok-held.held found (state c.scan_log.new.site) (state c.next_number.new.site)
+    c.in_ok-scan.ensures.log c.in_ok-log.ensures.changes c.in_ok-log.ensures.log c.as_slice.ensures c.as_slice-2.ensures c.in_ok-held.ensures.holds next.form next.keeps next.next
+    next.stored next.end

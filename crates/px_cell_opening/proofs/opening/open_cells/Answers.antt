@@ -5,41 +5,43 @@ use Rattle.px_tidying.proofs.Quiet.{alone_then}
 use Rattle.px_xlog.specs.Contents.{the_log}
 use Rattle.px_cell_opening.proofs.Beginning.{all_stand, opens_as, within}
 use Rattle.px_cell_opening.proofs.Refusals.{passing_leaves}
+use Rattle.px_cell_opening.proofs.Standing.{may_beside}
 use Rattle.px_cell_opening.specs.Errors.{IsPassing}
-use Rattle.px_cell_opening.proofs.Settling.{on_ok_of}
-use Rattle.px_cell_opening.specs.Opened.{IsTidiedOf, OpensAs, WorksFrom}
-use Rattle.px_cell_opening.specs.Settled.{Settled}
+use Rattle.px_cell_opening.specs.Opened.{IsTidiedOf, OpensAs}
 use Rattle.px_cell_opening.specs.declared.opening.Cells.{Cells}
 use Rattle.px_cell_opening.proofs.opening.open_cells.Goals as goal
 
 pub returns-in_err-found-clause-moments : goal.returns-in_err-found-clause-moments
-returns-in_err-found-clause-moments g c = λ t commits rows settled.
-    weaker_moments (λ now on. c.a_cut_leaves_what_stands.ensures c.args.restart.now commits rows (g.W.Site.state c.args.site.now) now settled on)
+returns-in_err-found-clause-moments g c = λ t commits rows may settled.
+    weaker_moments (λ now on. c.a_cut_leaves_what_stands.ensures commits rows (g.W.Site.state c.args.site.now).now now settled.images settled.alone on)
     (c.find_cells.ensures.moments t (record { behind = settled.grew; plain = settled.plain.log }))
 
 pub returns-in_err-found-clause-sound : goal.returns-in_err-found-clause-sound
-returns-in_err-found-clause-sound g c = λ t commits rows stands.
+returns-in_err-found-clause-sound g c = λ t commits rows may.
+    let before = g.W.Site.state c.args.site.now in
     let error = c.in_err-found.field-0.0 in
+    let picked = (may_beside c.args.restart.now commits rows before may (λ name. g.met.W.Site.reads_image t c.args.site.now name)).picked in
     if_err c.from_residual.result IsPassing error c.from_residual.ensures.1
-    (c.what_stands_has_no_damage.ensures c.args.restart.now commits rows (g.W.Site.state c.args.site.now).content error stands (c.in_err-found.ensures.refused t))
+    (c.what_stands_has_no_damage.ensures c.args.restart.now commits rows before.content error picked may.alone.content may.stands (c.in_err-found.ensures.refused t))
 
 pub returns-clause-opened : goal.returns-clause-opened
-returns-clause-opened g c = λ t commits rows settled.
+returns-clause-opened g c = λ t commits rows may.
     let found = c.in_ok-found.ensures in
     c.tidy_found.ensures.opened t commits rows
-    (c.what_was_found_rests.ensures c.args.restart.now commits rows c.in_ok-found.found (g.W.Site.state c.args.site.now) (g.W.Site.state c.find_cells.new.site) settled
-    found.found (found.read t) (found.logged t) (found.left t))
+    (c.what_was_found_rests.ensures c.args.restart.now commits rows c.in_ok-found.found (g.W.Site.state c.args.site.now) (g.W.Site.state c.find_cells.new.site) may
+    (λ name. g.met.W.Site.reads_image t c.args.site.now name) found.found (found.read t) (found.logged t) (found.left t))
 
 pub returns-clause-moments : goal.returns-clause-moments
-returns-clause-moments g c = λ t commits rows settled.
+returns-clause-moments g c = λ t commits rows may settled.
     let found = c.in_ok-found.ensures in
     let before = g.W.Site.state c.args.site.now in
     let middle = g.W.Site.state c.find_cells.new.site in
     all_stand commits rows before middle (g.W.Site.state c.tidy_found.new.site) (found.left t).told
-    (weaker_moments (λ now on. c.a_cut_leaves_what_stands.ensures c.args.restart.now commits rows before now settled on)
+    (weaker_moments (λ now on. c.a_cut_leaves_what_stands.ensures commits rows before.now now settled.images settled.alone on)
     (c.find_cells.ensures.moments t (record { behind = settled.grew; plain = settled.plain.log })))
     (c.tidy_found.ensures.moments t commits rows
-    (c.what_was_found_rests.ensures c.args.restart.now commits rows c.in_ok-found.found before middle settled found.found (found.read t) (found.logged t) (found.left t)))
+    (c.what_was_found_rests.ensures c.args.restart.now commits rows c.in_ok-found.found before middle may (λ name. g.met.W.Site.reads_image t c.args.site.now name) found.found
+    (found.read t) (found.logged t) (found.left t)))
 
 pub returns-clause-report : goal.returns-clause-report
 returns-clause-report g c = λ t.
@@ -56,24 +58,12 @@ returns-clause-commits g c =
     ok_weaker c.tidy_found.result (IsTidiedOf restart c.in_ok-found.found now) (λ (cells : Cells). cells.commits ≤ cells.log.frames)
     (λ cells is. within restart c.in_ok-found.found now cells c.requires.bounds is) c.tidy_found.ensures.tidied
 
+pub returns-clause-refused : goal.returns-clause-refused
+returns-clause-refused g c = λ t. c.tidy_found.ensures.refused t ((g.W.Site.state c.args.site.now).content the_log) (c.in_ok-found.ensures.read t)
+
 pub returns-clause-kept : goal.returns-clause-kept
-returns-clause-kept g c = λ t.
-    passing_leaves c.args.restart.now (g.W.Site.state c.args.site.now) (g.W.Site.state c.tidy_found.new.site) c.tidy_found.result (c.tidy_found.ensures.sound t)
+returns-clause-kept g c = λ t. passing_leaves (g.W.Site.state c.args.site.now) (g.W.Site.state c.tidy_found.new.site) c.tidy_found.result (c.tidy_found.ensures.sound t)
 
 pub returns-clause-log_alone : goal.returns-clause-log_alone
 returns-clause-log_alone g c = λ t.
     alone_then (g.W.Site.state c.args.site.now) (g.W.Site.state c.find_cells.new.site) (g.W.Site.state c.tidy_found.new.site) (c.find_cells.ensures.log_alone t) (c.tidy_found.ensures.log_alone t)
-
-pub returns-clause-settled : goal.returns-clause-settled
-returns-clause-settled g c = λ t commits rows settled.
-    let restart = c.args.restart.now in
-    let before = g.W.Site.state c.args.site.now in
-    let middle = g.W.Site.state c.find_cells.new.site in
-    let now = g.W.Site.state c.tidy_found.new.site in
-    let found = c.in_ok-found.ensures in
-    on_ok_of c.tidy_found.result (WorksFrom restart commits rows now) (Settled restart commits rows now)
-    (λ cells works. c.what_was_opened_is_settled.ensures restart commits rows before now cells settled
-    (alone_then before middle now (c.find_cells.ensures.log_alone t) (c.tidy_found.ensures.log_alone t)) works
-    (λ name. g.met.W.Site.reads_image t c.tidy_found.new.site name))
-    (c.tidy_found.ensures.opened t commits rows
-    (c.what_was_found_rests.ensures restart commits rows c.in_ok-found.found before middle settled found.found (found.read t) (found.logged t) (found.left t)))
