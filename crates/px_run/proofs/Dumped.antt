@@ -67,8 +67,8 @@ dumped_in_order found works = ap in_order (rows_are found ∙ sym (opening_is fo
 pub count_now : {n : ℕ} (found : Found) → n ≡ length found.rows → n ≡ length (rows_now (machine_of found))
 count_now found count = count ∙ ap length (sym (rows_are found))
 
-pub lines_of : {a b : State} (found : Found) (result : Result (Unit {0}) Status) → TellsLines (rows_now (machine_of found)) a b result → TellsLines found.rows a b result
-lines_of {a} {b} found result tells = subst (λ (rows : List Row). TellsLines rows a b result) (rows_are found) tells
+pub lines_of : (a b : State) (found : Found) (result : Result (Unit {0}) Status) → TellsLines (rows_now (machine_of found)) a b result → TellsLines found.rows a b result
+lines_of a b found result tells = subst (λ (rows : List Row). TellsLines rows a b result) (rows_are found) tells
 
 -- ---- at each moment
 

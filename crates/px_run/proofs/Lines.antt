@@ -114,15 +114,15 @@ walked_all rows last i old now all walked = walked.told ∙ ap (λ (r : List Row
 no_error : {A : Type 0} (kept : Option A) (error : A) → kept ≡ None → kept ≡ Some error → ⊥
 no_error kept error none some = cc (sym none ∙ some)
 
-pub unread_cause : {W : Type 0} (counts : W → Counts) (first : Counts) {old new : Kept W} (error : CoreError) → old.error ≡ None → NoneFell first (counts old.site)
+pub unread_cause : {W : Type 0} (counts : W → Counts) (first : Counts) (old new : Kept W) (error : CoreError) → old.error ≡ None → NoneFell first (counts old.site)
     → IsUnread counts old new error → HasRowCause first (counts new.site) (status_of error)
-unread_cause counts first CoreShort whole fell cause = tt
-unread_cause counts first {old} {new} (FaultOf fault) whole fell cause =
+unread_cause counts first old new CoreShort whole fell cause = tt
+unread_cause counts first old new (FaultOf fault) whole fell cause =
     (cause.0, rose_on (first.faults Read) ((counts old.site).faults Read) ((counts new.site).faults Read) (fell.faults Read) cause.1)
-unread_cause counts first (FullAt n) whole fell cause = absurd cause
-unread_cause counts first (DamagedAt file place) whole fell cause = tt
-unread_cause counts first (Broken SiteShort) whole fell cause = tt
-unread_cause counts first {old} (Broken (SiteFault fault)) whole fell cause = absurd (no_error old.error (SiteFault fault) whole cause)
+unread_cause counts first old new (FullAt n) whole fell cause = absurd cause
+unread_cause counts first old new (DamagedAt file place) whole fell cause = tt
+unread_cause counts first old new (Broken SiteShort) whole fell cause = tt
+unread_cause counts first old new (Broken (SiteFault fault)) whole fell cause = absurd (no_error old.error (SiteFault fault) whole cause)
 
 pub told_cause : (first old new : Counts) (status : Status) → NoneFell first old → HasTellCause old new status → HasRowCause first new status
 told_cause first old new OutputFault fell cause = rose_on first.tell_faults old.tell_faults new.tell_faults fell.tell_faults cause

@@ -98,7 +98,7 @@ fn tell_each<W: Site>(alloc: Global, core: &mut Core<W>, count: u64) -> Result<(
 
 /// The key past which the next row is.
 fn key_told(last: &Option<KeyOf>) -> Option<&KeyOf>
-    ensures { option_copied result.entry ≡ last.now }
+    ensures { option_copied result ≡ last.now }
 {
     match last {
         Some(key) => Some(key),
@@ -107,8 +107,7 @@ fn key_told(last: &Option<KeyOf>) -> Option<&KeyOf>
 }
 
 fn key_of(row: Row) -> KeyOf
-    ensures table { result.table ≡ row.table }
-    ensures key { result.key ≡ row.key }
+    ensures { result ≡ record { table = row.table; key = row.key } }
 {
     let Row { table, key, .. } = row;
     KeyOf { table, key }

@@ -1,4 +1,4 @@
-use Rattle.std.proofs.Common.{ℕ, List, Option, length, Some, None, Err, Ok, refl, sym, ap, subst, ◌∙◌, ◌<◌, ◌≡◌, arith}
+use Rattle.std.proofs.Common.{ℕ, ◌+◌, List, Option, length, Some, None, Err, Ok, refl, sym, ap, subst, ◌∙◌, ◌<◌, ◌≡◌, arith}
 use Rattle.std.proofs.lemmas.Result.{err_from_is_err_and}
 use Rattle.px_site.proofs.Causes.{no_fall, then_none_fell}
 use Rattle.px_site.specs.State.{State}
@@ -32,7 +32,7 @@ returns-in_err-row-clause-cause g c =
     let p = err_from_is_err_and c.from_residual.result c.from_residual.ensures.1 in
     let counts = g.W.Site.counts in
     rw p.1 (subst (HasRowCause (counts c.args.core.now.site) (counts c.next_row.new.self.site)) (sym p.2)
-    (unread_cause counts (counts c.args.core.now.site) c.in_err-row.field-0.0 c.loop-told.invariant.whole c.loop-told.invariant.none_fell c.in_err-row.ensures.cause))
+    (unread_cause counts (counts c.args.core.now.site) c.loop-told.core c.next_row.new.self c.in_err-row.field-0.0 c.loop-told.invariant.whole c.loop-told.invariant.none_fell c.in_err-row.ensures.cause))
 
 pub returns-in_err-row-clause-sound : goal.returns-in_err-row-clause-sound
 returns-in_err-row-clause-sound g c = λ t.
@@ -118,8 +118,9 @@ loop-told-preserved g c =
       walked = λ t m works order.
           let first : first_past c.loop-told.last (rows_now m) ≡ Some c.in-Some.row =
           ap (λ (last : Option KeyOf). first_past last (rows_now m)) (sym c.key_told.ensures) ∙ sym (c.in_ok-row.ensures.row t m (c.loop-told.invariant.works t m works)) ∙ c.in-Some.is in
-          walks_on (rows_now m) c.loop-told.last c.loop-told.told c.in-Some.row (state c.args.core.now.site) (state c.loop-told.core.site) (state c.next_row.new.self.site) (state c.tell_row.new.core.site)
-          order (c.loop-told.invariant.walked t m works order) first (c.next_row.ensures.same t) (c.in_ok-tell_row.ensures.tells t);
+          subst (λ (key : KeyOf). HasWalked (rows_now m) (Some key) (c.loop-told.told + 1) (state c.args.core.now.site) (state c.tell_row.new.core.site)) (sym c.key_of.ensures)
+          (walks_on (rows_now m) c.loop-told.last c.loop-told.told c.in-Some.row (state c.args.core.now.site) (state c.loop-told.core.site) (state c.next_row.new.self.site) (state c.tell_row.new.core.site)
+          order (c.loop-told.invariant.walked t m works order) first (c.next_row.ensures.same t) (c.in_ok-tell_row.ensures.tells t));
       only = λ t. then_only (c.loop-told.invariant.only t) (then_only (only_nothing (c.next_row.ensures.same t)) (only_piece _ c.tell_row.result (c.tell_row.ensures.tells t)));
       works = λ t m works. c.tell_row.ensures.works t m (c.next_row.ensures.works t m (c.loop-told.invariant.works t m works));
       none_fell = then_none_fell c.loop-told.invariant.none_fell (then_none_fell c.next_row.ensures.none_fell c.tell_row.ensures.none_fell);
