@@ -86,6 +86,14 @@ pub fn what_is_found_is_not_refused()
     what_opens_has_no_damage();
 }
 
+/// Files whose log has no room for what an opening is to unlink aren't refused either: they are no store that isn't there, nor a damaged one.
+pub fn what_has_no_room_is_not_refused()
+    ensures { (files : Files) (frame : ℕ) (error : OpenError) → HasRefusal files (OpenError.LogFull frame) → HasRefusal files error → IsPassing error }
+{
+    what_opens_is_one();
+    what_opens_has_no_damage();
+}
+
 /// In a store that holds the chains of a machine that just started each used row pointer is that of one of its rows.
 pub(crate) fn a_store_that_works_has_its_rows()
     ensures { (tables short : ℕ) (rows : List Row) (commits base : ℕ) (store : Store) → HoldsChains no_parts (fresh tables short rows commits base) store

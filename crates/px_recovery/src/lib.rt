@@ -21,7 +21,8 @@ mod restarts;
 
 pub use error::{MakeError, OpenError};
 pub use laws::{
-    files_stand_for_one_store, what_is_found_is_not_refused, what_opens_is_not_refused,
+    files_stand_for_one_store, what_has_no_room_is_not_refused, what_is_found_is_not_refused,
+    what_opens_is_not_refused,
 };
 pub use making::make;
 pub use opening::{NotOpened, OpenReport, Opened, open_store};

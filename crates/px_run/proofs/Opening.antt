@@ -64,11 +64,14 @@ played_reads tells x y reads reads_now before left _ cause sound = tt
 
 -- ---- it wasn't
 
-pub unopened_refused : (files : Files) (error : OpenError) → HasRefusal files error → (HasNoRestart files → IsAbsence error)
+abbrev pub FullUnrefused : Type 0
+FullUnrefused = (files : Files) (frame : ℕ) (error : OpenError) → HasRefusal files (OpenFull frame) → HasRefusal files error → IsPassing error
+
+pub unopened_refused : FullUnrefused → (files : Files) (error : OpenError) → HasRefusal files error → (HasNoRestart files → IsAbsence error)
     → RefusesBad files (status_of_opening error)
-unopened_refused files OpenShort refusal absent = record { no_store = λ none. tt; damaged = λ file place damage. tt }
-unopened_refused files (OpenFault fault) refusal absent = record { no_store = absent; damaged = λ file place damage. tt }
-unopened_refused files OpenNone refusal absent = record {
+unopened_refused full files OpenShort refusal absent = record { no_store = λ none. tt; damaged = λ file place damage. tt }
+unopened_refused full files (OpenFault fault) refusal absent = record { no_store = absent; damaged = λ file place damage. tt }
+unopened_refused full files OpenNone refusal absent = record {
   no_store = λ none. tt;
   damaged = λ file place damage. absurd (without refusal damage);
 }
@@ -78,11 +81,11 @@ unopened_refused files OpenNone refusal absent = record {
       | inl first ↦ none.first damage.restart first.0
       | inr second ↦ none.second damage.restart second.0
     ]
-unopened_refused files (OpenFull frame) refusal absent = record {
+unopened_refused full files (OpenFull frame) refusal absent = record {
   no_store = λ none. absurd (absent none);
-  damaged = λ file place damage. tt;
+  damaged = λ file place damage. absurd (full files frame (OpenDamaged file place) refusal damage);
 }
-unopened_refused files (OpenDamaged file place) refusal absent = record {
+unopened_refused full files (OpenDamaged file place) refusal absent = record {
   no_store = λ none. absurd (absent none);
   damaged = λ file place damage. tt;
 }

@@ -57,7 +57,6 @@ abbrev pub IsDamaged : Status → Type 0
 IsDamaged (Damaged file place) = Unit {0}
 IsDamaged (DiskFault fault) = Unit {0}
 IsDamaged OutOfMemory = Unit {0}
-IsDamaged (LogFull n) = Unit {0}
 IsDamaged _ = ⊥
 
 -- what the files show is refused

@@ -20,7 +20,7 @@ use crate::telling::tell;
 use px_calls::{Status, count_line, row_line};
 use px_core::Core;
 use px_model::{KeyOf, Row};
-use px_recovery::{open_store, what_opens_is_not_refused};
+use px_recovery::{open_store, what_has_no_room_is_not_refused, what_opens_is_not_refused};
 use px_site::Site;
 use std::alloc::Global;
 
@@ -36,6 +36,7 @@ pub(crate) fn dump_rows<W: Site>(alloc: Global, site: W) -> Ended<W>
         → EachMoment (ImagesStandFor found.commits found.rows) (W.state site) (W.state result.site) }
     ensures none_fell { NoneFell (W.counts site) (W.counts result.site) }
 {
+    what_has_no_room_is_not_refused();
     what_opens_is_not_refused();
     match open_store(alloc, site) {
         Ok(opened) => {

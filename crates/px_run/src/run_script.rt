@@ -17,7 +17,7 @@ use crate::ended::Ended;
 use crate::telling::tell;
 use px_calls::{Status, opened_line};
 use px_play::play;
-use px_recovery::{Opened, open_store, what_opens_is_not_refused};
+use px_recovery::{Opened, open_store, what_has_no_room_is_not_refused, what_opens_is_not_refused};
 use px_site::Site;
 use px_source::Source;
 use std::alloc::Global;
@@ -38,6 +38,7 @@ pub(crate) fn run_script<W: Site, S: Source>(alloc: Global, source: &mut S, site
     ensures none_fell { NoneFell (W.counts site) (W.counts result.site) }
     ensures source_none_fell { S.faults source.old ≤ S.faults source.new }
 {
+    what_has_no_room_is_not_refused();
     what_opens_is_not_refused();
     match open_store(alloc, site) {
         Ok(opened) => {

@@ -39,7 +39,7 @@ returns-in-Ok-clause-moments g c t found store =
 pub returns-in-Err-clause-refused : goal.returns-in-Err-clause-refused
 returns-in-Err-clause-refused g c t =
     subst (RefusesBad (g.W.Site.state c.args.site).content) (sym c.from.ensures)
-    (unopened_refused (g.W.Site.state c.args.site).content c.in-Err.refused.error (c.in-Err.ensures.refused t) (c.in-Err.ensures.absent t))
+    (unopened_refused c.what_has_no_room_is_not_refused.ensures (g.W.Site.state c.args.site).content c.in-Err.refused.error (c.in-Err.ensures.refused t) (c.in-Err.ensures.absent t))
 
 pub returns-in-Err-clause-dumps : goal.returns-in-Err-clause-dumps
 returns-in-Err-clause-dumps g c t found is_found =

@@ -49,7 +49,7 @@ returns-in-Ok-clause-moments g c = λ tells source_tells found store.
 pub returns-in-Err-clause-refused : goal.returns-in-Err-clause-refused
 returns-in-Err-clause-refused g c = λ tells.
     subst (RefusesBad (g.W.Site.state c.args.site).content) (sym c.from.ensures)
-    (unopened_refused (g.W.Site.state c.args.site).content c.in-Err.refused.error (c.in-Err.ensures.refused tells) (c.in-Err.ensures.absent tells))
+    (unopened_refused c.what_has_no_room_is_not_refused.ensures (g.W.Site.state c.args.site).content c.in-Err.refused.error (c.in-Err.ensures.refused tells) (c.in-Err.ensures.absent tells))
 
 pub returns-in-Err-clause-runs : goal.returns-in-Err-clause-runs
 returns-in-Err-clause-runs g c = λ tells source_tells found is_found.
