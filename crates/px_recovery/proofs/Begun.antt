@@ -43,10 +43,6 @@ module _ (restart : Restart) (a b c : State) (begun : IsBegun restart a b c) whe
   settled_read : (commits : ℕ) (rows : List Row) → Settled a commits rows → Settled b commits rows
   settled_read commits rows settled = subst (λ (s : State). Settled s commits rows) (sym begun.same) settled
 
-  pub begun_stands : (commits : ℕ) (rows : List Row) → (Settled b commits rows → EachMoment (KeepsStanding commits rows b.now) b c)
-      → Settled a commits rows → EachMoment (KeepsStanding commits rows a.now) a c
-  begun_stands commits rows one settled = standing_from begun.same (one (settled_read commits rows settled))
-
   pub opening_stands : SettledMayOpen → (d : State) (commits : ℕ) (rows : List Row)
       → (Settled b commits rows → EachMoment (KeepsStanding commits rows b.now) b c) → (Settled b commits rows → Settled c commits rows)
       → (MayOpen restart commits rows c → Settled c commits rows → EachMoment (KeepsStanding commits rows c.now) c d)

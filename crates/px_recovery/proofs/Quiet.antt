@@ -7,7 +7,6 @@ use Rattle.px_site.specs.declared.name.FileName.{FileName}
 use Rattle.px_site.specs.Disk.{FileState}
 use Rattle.px_model.specs.declared.row.Row.{Row}
 use Rattle.px_cell_standing.specs.Images.{KeepsStanding}
-use Rattle.px_cell_standing.specs.Settled.{Settled}
 use Rattle.px_recovery.specs.Opening.{TellsNothing}
 
 first_moment : (m n : Moment) (ms ns : List Moment) → m ∷ ms ≡ n ∷ ns → m ≡ n
@@ -42,12 +41,6 @@ standing_from {a} {b} {c} {count} {rows} same p = subst (λ (s : State). EachMom
 pub file_quiet : {file : FileName} {P : FileState → Type 0} {a b : State} → EachMoment (OnFile file a.now P) a b → EachMoment (TellsNothing a.now) a b
 file_quiet p = weaker_moments (λ m on. record { told = on.told; telling = on.telling }) p
 
--- a call that only reads, and then two that keep what the store stands for
-pub two_stand : {a b c d : State} (count : ℕ) (rows : List Row) → b ≡ a → (Settled b count rows → EachMoment (KeepsStanding count rows b.now) b c) → (Settled b count rows → Settled c count rows)
-    → (Settled c count rows → EachMoment (KeepsStanding count rows c.now) c d) → Settled a count rows → EachMoment (KeepsStanding count rows a.now) a d
-two_stand {a} {b} {c} {d} count rows same one settles two settled =
-    let here : Settled b count rows = subst (λ (s : State). Settled s count rows) (sym same) settled in
-    standing_from same (standing_then (one here) (two (settles here)))
-
+-- a call that only reads, one that tells nothing, and one of a file
 pub two_quiet : {a b c d : State} {file : FileName} {P : FileState → Type 0} → b ≡ a → EachMoment (TellsNothing b.now) b c → EachMoment (OnFile file c.now P) c d → EachMoment (TellsNothing a.now) a d
 two_quiet same one two = quiet_from same (quiet_then one (file_quiet two))
