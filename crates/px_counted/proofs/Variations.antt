@@ -1,4 +1,4 @@
--- A table's variations, by the chains of its keys and by the slots in them.
+-- A table's versions, by the chains of its keys and by the slots in them.
 use Rattle.std.proofs.Common.{◌≡◌, ◌≢◌, ℕ, ◌-◌, ◌^◌, ◌<◌, ◌≤◌, Bool, true, false, List, [], length, map, refl, sym, ap, subst, ◌∙◌, arith, inl, ⊎_elim}
 use Rattle.std.specs.Prelude.{Contains, count_by, filter, sum_by}
 use Rattle.std.proofs.lemmas.Bool.{cases_eq, eq-eqb, eqb-true, false_from_ne_true, le-leb, leb-true}
@@ -37,7 +37,7 @@ key_in store t row = (t, key_of (store.tables t) row)
 abbrev keys_in : Store → (t : ℕ) → List Key
 keys_in store t = map (key_in store t) (used_rows (store.tables t))
 
--- the variations of a table
+-- the versions of a table
 abbrev writes_in : Machine → (t : ℕ) → List Write
 writes_in m t = filter (in_table t) (all_variations m)
 
@@ -114,7 +114,7 @@ are_keys parts m store t h opening = record {
       (cases_eq key.0 t);
 }
 
--- ---- the variations
+-- ---- the versions
 
 pub in_chains : (parts : Parts) (m : Machine) (store : Store) (t : ℕ) → HoldsChains parts m store → in_order m.opening ≡ true
     → variations_of_table m t ≡ slots_in_chains (store.tables t) (store.layouts t)

@@ -24,7 +24,7 @@ pub fn places_are_counted()
     ensures once { (table : Table) → IsApart (used_rows table) }
 {}
 
-/// A table whose slots' numbers fit has none left just where its chains have as many as a table may have variations. Each used row
+/// A table whose slots' numbers fit has none left just where its chains have as many as a table may have versions. Each used row
 /// has a chain of at least one, so row pointers run out only where slots have.
 pub fn row_pointers_last_as_long_as_slots()
     ensures full { (short : ℕ) (table : Table) (layout : Layout) → IsSound short table layout → table.header.slots < 2 ^ 32
@@ -35,8 +35,8 @@ pub fn row_pointers_last_as_long_as_slots()
         → AreFull (rows_of table.header) → AreFull (slots_of table.header) }
 {}
 
-/// A table's variations are the slots in its chains, whose numbers are those used less those on the free list. So the table is full
-/// of variations just where its header says that no slot is left, which is where no place is left for a key of it, new or not, and
+/// A table's versions are the slots in its chains, whose numbers are those used less those on the free list. So the table is full
+/// of versions just where its header says that no slot is left, which is where no place is left for a key of it, new or not, and
 /// where a call that writes is told that it is full.
 pub fn variations_are_the_slots_in_chains()
     ensures in_chains { (parts : Parts) (m : Machine) (store : Store) (t : ℕ) → HoldsChains parts m store → in_order m.opening ≡ true
