@@ -11,7 +11,7 @@ use Rattle.px_model.specs.declared.machine.Open.{Open}
 use Rattle.px_model.specs.declared.write.Write.{Write}
 use Rattle.px_model.specs.Machine.{Machine}
 use Rattle.px_calls.specs.declared.call.Call.{Call}
-use Rattle.px_calls.specs.declared.call.Call.TheVariants.{Begin, Get, Hold, Fetch, Find, Scan, Insert, Update, Delete, Commit, Rollback}
+use Rattle.px_calls.specs.declared.call.Call.TheVariants.{Get, Hold, Find, Scan, Insert, Update, Delete, Commit, Rollback}
 use Rattle.px_calls.specs.declared.reply.Reply.{Reply}
 use Rattle.px_calls.specs.declared.status.Status.{Status}
 use Rattle.px_calls.specs.declared.status.Status.TheVariants.{Damaged, OutputFault, OutOfMemory, LogFull}

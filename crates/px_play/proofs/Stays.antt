@@ -1,5 +1,5 @@
 -- What a crash leaves of a core that works for a machine.
-use Rattle.std.proofs.Common.{ℕ, ◌^◌, ◌<◌, arith, refl}
+use Rattle.std.proofs.Common.{◌^◌, ◌<◌, arith}
 use Rattle.px_site.specs.State.{State}
 use Rattle.px_model.specs.Machine.{Machine, commits}
 use Rattle.px_logged.specs.Recounting.{rows_now}

@@ -22,7 +22,7 @@ use Rattle.px_recovery.specs.Opening.{report_of}
 use Rattle.px_play.specs.Acknowledged.{KeepsAcknowledged, TellsWhole, acknowledged}
 use Rattle.px_play.specs.Causes.{faults_by}
 use Rattle.px_play.specs.Input.{script_of}
-use Rattle.px_play.specs.Playing.{AreNumbered, HoldsAll, IsSpared, OnShort, PlaysRight, StopsAfter, StopsFull, UnlessBroken, calls_made as replies_made, pieces_of}
+use Rattle.px_play.specs.Playing.{AreNumbered, HoldsAll, IsSpared, OnShort, PlaysRight, StopsAfter, UnlessBroken, calls_made as replies_made, pieces_of}
 use Rattle.px_play.specs.Told.{IsTold}
 use Rattle.px_play.proofs.Parts.{open_nil}
 use Rattle.px_play.proofs.Replies.{quiet_acknowledged}

@@ -1,4 +1,4 @@
-use Rattle.std.proofs.Common.{ap, sym, subst, ◌∙◌}
+use Rattle.std.proofs.Common.{ap, sym, subst}
 use Rattle.px_site.specs.State.{EachMoment}
 use Rattle.px_cell_standing.specs.Found.{machine_of}
 use Rattle.px_cell_standing.specs.Images.{ImagesStandFor}

@@ -1,18 +1,14 @@
-use Rattle.std.proofs.Common.{ℕ, ◌+◌, List, Option, length, Some, None, Err, Ok, refl, sym, ap, subst, ◌∙◌, ◌<◌, ◌≡◌, arith}
+use Rattle.std.proofs.Common.{◌+◌, Option, length, Some, None, refl, sym, ap, subst, ◌∙◌, ◌≡◌, arith}
 use Rattle.std.proofs.lemmas.Result.{err_from_is_err_and}
 use Rattle.px_site.proofs.Causes.{no_fall, then_none_fell}
-use Rattle.px_site.specs.State.{State}
 use Rattle.px_logged.specs.Recounting.{rows_now}
 use Rattle.px_model.specs.declared.key.KeyOf.{KeyOf}
-use Rattle.px_model.specs.declared.row.Row.{Row}
-use Rattle.px_calls.specs.declared.status.Status.{Status}
 use Rattle.px_committed.specs.Rows.{first_past}
-use Rattle.px_core.specs.Errors.{status_of}
 use Rattle.px_play.proofs.Answering.{refused_sound}
 use Rattle.px_play.specs.Causes.{IsUndamaged}
 use Rattle.px_run.proofs.Lines.{line_untold, row_unread, told_cause, told_sound, unread_cause, walk_over, walked_all, walks_none, walks_on}
 use Rattle.px_run.proofs.Pieces.{only_nothing, only_piece, then_only}
-use Rattle.px_run.proofs.Walking.{HasWalked, its_key}
+use Rattle.px_run.proofs.Walking.{HasWalked}
 use Rattle.px_run.specs.Working.{HasRowCause}
 use Rattle.px_run.proofs.dump_rows.tell_each.Goals as goal
 

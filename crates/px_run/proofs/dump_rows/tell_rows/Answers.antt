@@ -5,7 +5,6 @@ use Rattle.px_run.specs.Working.{TellsPiece}
 use Rattle.px_run.proofs.Dumped.{count_now, dumped_in_order, lines_of}
 use Rattle.px_run.proofs.Lines.{all_told, count_untold, part_told}
 use Rattle.px_run.proofs.Pieces.{only_piece, then_only}
-use Rattle.px_run.proofs.Quiet.{rows_are}
 use Rattle.px_run.proofs.dump_rows.tell_rows.Goals as goal
 
 pub returns-in-Err-clause-tells : goal.returns-in-Err-clause-tells
