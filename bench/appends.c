@@ -1,33 +1,44 @@
-/* Frames of 250 bytes, each with a row of 8 bytes of key and 200 of body, summed and written one behind the other: what the
-   appends of a log cannot do without. usage: appends TIMES */
+/* Frames of 250 bytes, each with the three cells of a row, summed and written one behind the other: what the appends of a log
+   cannot do without. usage: appends TIMES */
 #include "pieces.h"
 #include "spell.h"
 #include "sum.h"
 
-enum { HEADER_SIZE = 16, SUMMED_FROM = 8, FIELDS_SIZE = 26, KEY_SIZE = 8, BODY_SIZE = 200 };
+enum { FRAME_HEAD_SIZE = 16, SUMMED_FROM = 8, CHANGE_HEAD_SIZE = 18, CELL_HEAD_SIZE = 8, CELLS = 3 };
+enum { HEADER_SIZE = 16, SLOT_SIZE = 168, POINTER_SIZE = 8 };
 
-struct row {
-    uint8_t key[KEY_SIZE], body[BODY_SIZE];
+struct cell {
+    uint8_t what;
+    uint32_t number;
+    uint16_t size;
+    uint8_t *bytes;
 };
 
-/* The frame of that number which has the row (docs/FORMATS.md, 'Frame' and 'Change'). */
-static void spell_frame(uint8_t *frame, uint32_t number, const struct row *row)
+/* The cell, and where the next one begins (docs/FORMATS.md, 'Change'). */
+static uint8_t *spell_cell(uint8_t *to, const struct cell *cell)
 {
-    uint8_t *payload = frame + HEADER_SIZE, *behind = payload + FIELDS_SIZE;
-    spell_u32(frame, FIELDS_SIZE + KEY_SIZE + BODY_SIZE);
+    to[0] = cell->what;
+    to[1] = 1;
+    spell_u32(to + 2, cell->number);
+    to[6] = (uint8_t)(cell->size >> 8);
+    to[7] = (uint8_t)cell->size;
+    memcpy(to + CELL_HEAD_SIZE, cell->bytes, cell->size);
+    return to + CELL_HEAD_SIZE + cell->size;
+}
+
+/* The frame of that number in which transaction 1 puts the cells. */
+static void spell_frame(uint8_t *frame, uint32_t number, const struct cell *cells)
+{
+    uint8_t *payload = frame + FRAME_HEAD_SIZE, *behind = payload + CHANGE_HEAD_SIZE;
     spell_u64(frame + 8, number);
     payload[0] = 1;
     spell_u64(payload + 1, 1);
     spell_u64(payload + 9, 0);
-    payload[17] = 1;
-    payload[18] = 1;
-    payload[19] = KEY_SIZE;
-    spell_u32(payload + 20, 7);
-    payload[24] = BODY_SIZE >> 8;
-    payload[25] = BODY_SIZE & 255;
-    memcpy(behind, row->key, KEY_SIZE);
-    memcpy(behind + KEY_SIZE, row->body, BODY_SIZE);
-    spell_u32(frame + 4, fnv_on(FNV_OFFSET, frame + SUMMED_FROM, PIECE_SIZE - SUMMED_FROM));
+    payload[17] = CELLS;
+    for (int i = 0; i < CELLS; i++)
+        behind = spell_cell(behind, &cells[i]);
+    spell_u32(frame, (uint32_t)(behind - payload));
+    spell_u32(frame + 4, fnv_on(FNV_OFFSET, frame + SUMMED_FROM, (size_t)(behind - frame) - SUMMED_FROM));
 }
 
 int main(int argc, char **argv)
@@ -36,13 +47,15 @@ int main(int argc, char **argv)
         return 2;
     uint32_t times = (uint32_t)strtoul(argv[1], NULL, 10);
     int file = new_file();
-    struct row row;
-    memset(&row, 0x61, sizeof row);
-    uint8_t frame[PIECE_SIZE];
+    uint8_t header[HEADER_SIZE], slot[SLOT_SIZE], pointer[POINTER_SIZE], frame[PIECE_SIZE];
+    memset(header, 1, sizeof header);
+    memset(slot, 0x61, sizeof slot);
+    memset(pointer, 1, sizeof pointer);
+    const struct cell cells[CELLS] = { { 1, 0, HEADER_SIZE, header }, { 2, 1, SLOT_SIZE, slot }, { 3, 1, POINTER_SIZE, pointer } };
 
     uint64_t start = now_us();
     for (uint32_t number = 0; number < times; number++) {
-        spell_frame(frame, number, &row);
+        spell_frame(frame, number, cells);
         if (!write_piece(file, frame, number))
             return 1;
     }

@@ -1,4 +1,4 @@
-/* What two frames of a commit take, written by one call and synced, again and again: usage: commits TIMES */
+/* What the two frames of a transaction of one row take, written by one call and synced, again and again: usage: commits TIMES */
 #include <fcntl.h>
 #include <stdint.h>
 #include <stdio.h>
@@ -6,7 +6,8 @@
 #include <string.h>
 #include <unistd.h>
 
-#define FRAMES_SIZE 80
+/* A Put in a store of short length 64, and a Commit (docs/FORMATS.md, 'Change'). */
+enum { FRAMES_SIZE = 246 + 34 };
 
 int main(int argc, char **argv)
 {

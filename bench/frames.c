@@ -39,16 +39,6 @@ static int write_frame(struct buffer *out, uint64_t number, const uint8_t *paylo
     return 0;
 }
 
-static uint32_t read_u32(const uint8_t *at)
-{
-    return (uint32_t)at[0] << 24 | (uint32_t)at[1] << 16 | (uint32_t)at[2] << 8 | at[3];
-}
-
-static uint64_t read_u64(const uint8_t *at)
-{
-    return (uint64_t)read_u32(at) << 32 | read_u32(at + 4);
-}
-
 /* The size of the frame that checks at the front for that number, 0 where none does. */
 static size_t read_frame(const uint8_t *bytes, size_t left, uint64_t number, const uint8_t **payload)
 {

@@ -13,6 +13,7 @@ use Rattle.px_calls.specs.declared.reply.Reply.TheVariants.{Began, RowIs, NoRow,
 use Rattle.px_model.specs.declared.limits.TheConstants.{LONGEST_KEY, MOST_WRITES, MOST_TICKETS, MOST_BEGINS, MOST_VARIATIONS, STORED_NUMBERS_END}
 use Rattle.px_model.specs.Rows.{Key, row_at, has_write_of}
 use Rattle.px_model.specs.Machine.{Machine, view, commits}
+use Rattle.px_model.specs.Chains.{variations_of_table}
 
 -- the session's open transaction
 abbrev pub open_of : Machine → ℕ → Option Open
@@ -53,9 +54,10 @@ unfoldable pub conflict_of : Machine → ℕ → Open → Key → Option ℕ
 conflict_of m session xact key =
     option_or (open_writer key (slice_set m.active session None)) (last_writer key (drop xact.snap m.ended))
 
--- until tables have slots, none is full
+-- a table is full where it has as many versions as it may: those that its chains stand on, and the writes since, of the ended transactions that
+-- are not swept and of the open ones
 unfoldable pub is_full : Machine → ℕ → Bool
-is_full m table = false
+is_full m table = nat_le MOST_VARIATIONS (variations_of_table m table)
 
 -- ---- the reply
 

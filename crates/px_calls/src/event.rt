@@ -6,7 +6,7 @@ use px_model::Session;
 pub enum Activity {
     /// Puts logged changes into the table files.
     Writer,
-    /// Removes variations that nobody needs.
+    /// Removes versions that nobody needs.
     Sweeper,
     /// Moves what is used out of data logs with much garbage, and removes these logs.
     Compactor,

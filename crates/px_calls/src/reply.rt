@@ -52,7 +52,7 @@ pub enum Reply {
     Duplicate,
     /// Refused: the row isn't there.
     Missing,
-    /// Refused: the table has as many variations as it may, which is the number.
+    /// Refused: the table has as many versions as it may, which is the number.
     TableFull(u32),
 
     /// The writer put this frame into the table files.

@@ -1,11 +1,13 @@
 //! Worked examples: what the machine replies to short scripts, and what it counts then.
 //!
 //! Each function is a law about the definitions, which holds by computing them; none of them does anything.
-#![tactic(auto, unfolding(px_model::specs::Rows::key_cmp, px_model::specs::Rows::same_key, px_model::specs::Machine::fresh, px_model::specs::Machine::commits, px_model::specs::Machine::opens, px_model::specs::Machine::view, px_model::specs::Machine::horizon, px_model::specs::Machine::published, px_model::specs::Chains::base_rows, px_model::specs::Chains::all_variations, px_model::specs::Chains::variations, px_model::specs::Chains::unswept, px_model::specs::Chains::live, crate::specs::Sweeps::sweep_reply, crate::specs::Sweeps::swept_state, crate::specs::Steps::begins_spent, crate::specs::Steps::has_table, crate::specs::Steps::fits_key, crate::specs::Steps::longest_body, crate::specs::Steps::fits_body, crate::specs::Steps::conflict_of, crate::specs::Steps::write_refusal, crate::specs::Steps::is_full, crate::specs::Steps::kept_row, crate::specs::Steps::rows_of_table, crate::specs::Steps::rows_with_tag, crate::specs::Steps::reply_of, crate::specs::Steps::state_when_done, crate::specs::Steps::state_after,))]
+#![tactic(auto, unfolding(px_model::specs::Rows::key_cmp, px_model::specs::Rows::same_key, px_model::specs::Machine::fresh, px_model::specs::Machine::commits, px_model::specs::Machine::opens, px_model::specs::Machine::view, px_model::specs::Machine::horizon, px_model::specs::Machine::published, px_model::specs::Chains::base_rows, px_model::specs::Chains::all_variations, px_model::specs::Chains::variations, px_model::specs::Chains::unswept, px_model::specs::Chains::live, px_model::specs::Chains::variations_of_table, crate::specs::Sweeps::sweep_reply, crate::specs::Sweeps::swept_state, crate::specs::Steps::begins_spent, crate::specs::Steps::has_table, crate::specs::Steps::fits_key, crate::specs::Steps::longest_body, crate::specs::Steps::fits_body, crate::specs::Steps::conflict_of, crate::specs::Steps::write_refusal, crate::specs::Steps::is_full, crate::specs::Steps::kept_row, crate::specs::Steps::rows_of_table, crate::specs::Steps::rows_with_tag, crate::specs::Steps::reply_of, crate::specs::Steps::state_when_done, crate::specs::Steps::state_after,))]
 
-ghost use Rattle.std.specs.Prelude.{◌≡◌, ◌∷◌, []};
+ghost use Rattle.std.specs.Prelude.{◌≡◌, ◌∷◌, [], false};
+ghost use Rattle.px_model.specs.Chains.{variations_of_table};
 ghost use Rattle.px_model.specs.Machine.{horizon, published};
 ghost use Rattle.px_calls.specs.Histories.{machine_after, replies_to};
+ghost use Rattle.px_calls.specs.Steps.{is_full};
 ghost use Rattle.px_calls.specs.Worked.{
   alone,
   alone_replies,
@@ -117,4 +119,6 @@ pub fn an_opened_store_counts_its_rows()
     ensures horizon { horizon (machine_after opened_store one_deletion) ≡ 1 }
     ensures first_rows { published (machine_after opened_store one_deletion) 0 ≡ zeros_at 1 64 ∷ zeros_at 2 65 ∷ [] }
     ensures last_rows { published (machine_after opened_store one_deletion) 1 ≡ zeros_at 2 65 ∷ [] }
+    ensures versions { variations_of_table (machine_after opened_store one_deletion) 1 ≡ 3 }
+    ensures room { is_full (machine_after opened_store one_deletion) 1 ≡ false }
 {}

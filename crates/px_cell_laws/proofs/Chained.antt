@@ -1,4 +1,4 @@
--- The chains of cells as variations, and what holds of the numbers in them.
+-- The chains of cells as versions, and what holds of the numbers in them.
 use Rattle.std.proofs.Common.{◌≡◌, ◌≢◌, ℕ, List, [], ◌∷◌, map, reverse, refl, sym, ap, subst, ◌∙◌, ⊎_elim}
 use Rattle.std.specs.Prelude.{All}
 use Rattle.std.proofs.lemmas.List.Elements.{All-nil, All-map, All-same}

@@ -30,7 +30,7 @@ pub record HasEnded (m : Machine) (xn : ℕ) : Type 0 where
   pub committed : Bool
   pub so : standing_in m (Some xn) ≡ standing_at place committed
 
--- the variation is of the opening, or of a transaction that ended
+-- the version is of the opening, or of a transaction that ended
 abbrev pub IsEnded : Machine → Variation → Type 0
 IsEnded m v = IfSome v.xn (HasEnded m)
 

@@ -8,6 +8,7 @@ use Rattle.px_chain.specs.Links.{IsStored}
 use Rattle.px_chain_laws.specs.Kept.{IsKept}
 use Rattle.px_chain_laws.proofs.Keeping.{kept_call, kept_sweep}
 use Rattle.px_history.specs.Example.{deleted_by_4, header_with}
+use Rattle.px_model.specs.Chains.{all_variations, base_rows, variations_of_table}
 use Rattle.px_model.specs.Machine.{commits, fresh, horizon, published, view}
 use Rattle.px_model.specs.Rows.{key_cmp, same_key}
 use Rattle.px_model.specs.declared.machine.Flat.{Flat}
@@ -48,7 +49,7 @@ unfolding is_slot
 stored = record { form = refl; used = λ e. cc }
 
 second_write : (parts : Parts) → IsWriteBy parts second_begun one_row 0 (DeleteCall 2 key) 2 (header_with 2) deleted_by_4
-unfolding second fresh state_after state_when_done reply_of begins_spent write_refusal has_table fits_key fits_body longest_body conflict_of is_full view same_key key_cmp
+unfolding second fresh state_after state_when_done reply_of begins_spent write_refusal has_table fits_key fits_body longest_body conflict_of is_full variations_of_table all_variations base_rows view same_key key_cmp
 second_write parts = record {
   xact = second;
   is_open = refl;
@@ -66,11 +67,11 @@ deleting : Open
 deleting = record { number = 2; snap = 1; writes = Delete 2 key ∷ []; kept = [] }
 
 deleting_open : open_of unwritten 0 ≡ Some deleting
-unfolding deleting fresh state_after state_when_done reply_of begins_spent write_refusal has_table fits_key fits_body longest_body conflict_of is_full view same_key key_cmp
+unfolding deleting fresh state_after state_when_done reply_of begins_spent write_refusal has_table fits_key fits_body longest_body conflict_of is_full variations_of_table all_variations base_rows view same_key key_cmp
 deleting_open = refl
 
 pub deleted_holds : (parts : Parts) → HoldsChains parts deleted deleted_row
-unfolding deleting fresh commits state_after state_when_done reply_of begins_spent write_refusal has_table fits_key fits_body longest_body conflict_of is_full view same_key key_cmp
+unfolding deleting fresh commits state_after state_when_done reply_of begins_spent write_refusal has_table fits_key fits_body longest_body conflict_of is_full variations_of_table all_variations base_rows view same_key key_cmp
 deleted_holds parts = commit_holds parts unwritten two_versions 0 deleting (unwritten_holds parts) unwritten_kept deleting_open (λ none. cc)
 
 -- ---- the sweeps
@@ -82,7 +83,7 @@ deletion : Flat
 deletion = record { place = 1; number = 2; committed = true; write = Delete 2 key }
 
 insertion_swept : IsSweptAt deleted deleted_row insertion 2 1 1
-unfolding insertion horizon fresh state_after state_when_done reply_of begins_spent write_refusal has_table fits_key fits_body longest_body conflict_of is_full view same_key key_cmp
+unfolding insertion horizon fresh state_after state_when_done reply_of begins_spent write_refusal has_table fits_key fits_body longest_body conflict_of is_full variations_of_table all_variations base_rows view same_key key_cmp
 insertion_swept = record { next = refl; due = lit< tt; used = ((lit≤ tt, lit≤ tt), refl); its_key = refl; behind = refl }
 
 pub swept_once_holds : (parts : Parts) → HoldsChains parts swept_once deleted_row
@@ -96,7 +97,7 @@ twice_kept : IsKept swept_twice
 twice_kept = kept_sweep swept_once once_kept
 
 deletion_swept : IsSweptAt swept_once deleted_row deletion 2 1 0
-unfolding deletion horizon swept_state sweep_reply fresh state_after state_when_done reply_of begins_spent write_refusal has_table fits_key fits_body longest_body conflict_of is_full view same_key key_cmp
+unfolding deletion horizon swept_state sweep_reply fresh state_after state_when_done reply_of begins_spent write_refusal has_table fits_key fits_body longest_body conflict_of is_full variations_of_table all_variations base_rows view same_key key_cmp
 deletion_swept = record { next = refl; due = lit< tt; used = ((lit≤ tt, lit≤ tt), refl); its_key = refl; behind = refl }
 
 pub swept_twice_holds : (parts : Parts) → HoldsChains parts swept_twice no_row
@@ -104,10 +105,10 @@ unfolding deletion
 swept_twice_holds parts = sweep_holds parts swept_once deleted_row deletion 2 1 0 (swept_once_holds parts) once_kept deletion_swept (lit≤ tt)
 
 nothing_now : published swept_twice (commits swept_twice - swept_twice.before) ≡ []
-unfolding published commits swept_state sweep_reply fresh state_after state_when_done reply_of begins_spent write_refusal has_table fits_key fits_body longest_body conflict_of is_full view same_key key_cmp
+unfolding published commits swept_state sweep_reply fresh state_after state_when_done reply_of begins_spent write_refusal has_table fits_key fits_body longest_body conflict_of is_full variations_of_table all_variations base_rows view same_key key_cmp
 nothing_now = refl
 
 pub nothing_shown : (parts : Parts) → Shows parts no_row.tables no_row.layouts no_row.done []
-unfolding swept_state fresh state_after state_when_done reply_of begins_spent write_refusal has_table fits_key fits_body longest_body conflict_of view is_full same_key key_cmp
+unfolding swept_state fresh state_after state_when_done reply_of begins_spent write_refusal has_table fits_key fits_body longest_body conflict_of view is_full variations_of_table all_variations base_rows same_key key_cmp
 nothing_shown parts =
     subst (λ (rows : List Row). Shows parts no_row.tables no_row.layouts no_row.done rows) nothing_now (committed_shown parts swept_twice no_row (swept_twice_holds parts) twice_kept refl)

@@ -57,7 +57,7 @@ counts m (Some xn) = is_committed (standing_in m (Some xn))
 abbrev counts_in : Machine → Variation → Bool
 counts_in m v = counts m v.xn
 
--- the newest variation that counts is the row after all commits
+-- the newest version that counts is the row after all commits
 row_now : (m : Machine) (key : Key) → IsKept m → row_seen (last (counts_in m) (chain m key)) ≡ row_at key (published m (commits m - m.before))
 unfolding chain
 row_now m key k =

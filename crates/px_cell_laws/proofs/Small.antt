@@ -7,6 +7,7 @@ use Rattle.px_chain.specs.Links.{IsStored}
 use Rattle.px_chain_laws.specs.Kept.{IsKept}
 use Rattle.px_chain_laws.proofs.Keeping.{kept_call, kept_fresh}
 use Rattle.px_history.specs.Store.{nothing}
+use Rattle.px_model.specs.Chains.{all_variations, base_rows, variations_of_table}
 use Rattle.px_model.specs.Machine.{commits, fresh, published, view}
 use Rattle.px_model.specs.Rows.{key_cmp, same_key}
 use Rattle.px_model.specs.declared.machine.Open.{Open}
@@ -57,7 +58,7 @@ unfolding is_slot
 stored = record { form = refl; used = λ e. cc }
 
 first_write : (parts : Parts) → IsWriteBy parts begun nothing 0 (Insert 2 key 7 body) 2 one_place written_by_3
-unfolding first fresh state_after state_when_done reply_of begins_spent write_refusal has_table fits_key fits_body longest_body conflict_of is_full view same_key key_cmp
+unfolding first fresh state_after state_when_done reply_of begins_spent write_refusal has_table fits_key fits_body longest_body conflict_of is_full variations_of_table all_variations base_rows view same_key key_cmp
 first_write parts = record {
   xact = first;
   is_open = refl;
@@ -76,18 +77,18 @@ writer : Open
 writer = record { number = 1; snap = 0; writes = Put (row_with body) ∷ []; kept = [] }
 
 writer_open : open_of written 0 ≡ Some writer
-unfolding writer fresh state_after state_when_done reply_of begins_spent write_refusal has_table fits_key fits_body longest_body conflict_of is_full view same_key key_cmp
+unfolding writer fresh state_after state_when_done reply_of begins_spent write_refusal has_table fits_key fits_body longest_body conflict_of is_full variations_of_table all_variations base_rows view same_key key_cmp
 writer_open = refl
 
 pub committed_holds : (parts : Parts) → HoldsChains parts committed one_row
-unfolding writer fresh state_after state_when_done reply_of begins_spent write_refusal has_table fits_key fits_body longest_body conflict_of is_full view
+unfolding writer fresh state_after state_when_done reply_of begins_spent write_refusal has_table fits_key fits_body longest_body conflict_of is_full variations_of_table all_variations base_rows view
 committed_holds parts = commit_holds parts written one_version 0 writer (written_holds parts) written_kept writer_open (λ none. cc)
 
 one_row_now : published committed (commits committed - committed.before) ≡ row_with body ∷ []
-unfolding published commits fresh state_after state_when_done reply_of begins_spent write_refusal has_table fits_key fits_body longest_body conflict_of is_full view same_key key_cmp
+unfolding published commits fresh state_after state_when_done reply_of begins_spent write_refusal has_table fits_key fits_body longest_body conflict_of is_full variations_of_table all_variations base_rows view same_key key_cmp
 one_row_now = refl
 
 pub committed_shows : (parts : Parts) → Shows parts one_row.tables one_row.layouts one_row.done (row_with body ∷ [])
-unfolding fresh state_after state_when_done reply_of begins_spent write_refusal has_table fits_key fits_body longest_body conflict_of is_full view
+unfolding fresh state_after state_when_done reply_of begins_spent write_refusal has_table fits_key fits_body longest_body conflict_of is_full variations_of_table all_variations base_rows view
 committed_shows parts =
     subst (λ (rows : List Row). Shows parts one_row.tables one_row.layouts one_row.done rows) one_row_now (committed_shown parts committed one_row (committed_holds parts) committed_kept refl)

@@ -114,7 +114,7 @@ its_key_is_free parts m store session call t header slot v =
     subst (λ (q : Key). open_writer q (set m.active session None) ≡ None) (key_of_write parts t slot)
     (nobody_else m session call v.xact (write_of parts t slot) v.is_open v.write v.answered)
 
--- the variation is of the opening, of this transaction, or of one that ended
+-- the version is of the opening, of this transaction, or of one that ended
 abbrev IsOwnOrEnded : Machine → (own : ℕ) → Variation → Type 0
 IsOwnOrEnded m own v = IfSome v.xn (λ xn. (xn ≡ own) ⊎ HasEnded m xn)
 

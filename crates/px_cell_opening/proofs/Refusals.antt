@@ -118,6 +118,7 @@ tidy_refusal restart bytes found has old new (tidy_errors.LogFull frame) scan pa
   found = has.holds.found;
   layouts = has.holds.layouts;
   opens = has.holds.opens;
+  stored = has.stored;
   next = found.next;
   is_next = has.next;
   none_left = cause;

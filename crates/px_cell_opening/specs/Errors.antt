@@ -5,6 +5,7 @@ use Rattle.px_beginning.specs.Numbers.{IsNext}
 use Rattle.px_held.specs.declared.error.HeldError.{HeldError}
 use Rattle.px_held.specs.declared.error.HeldError.TheVariants as held
 use Rattle.px_laid.specs.Places.{none_laid}
+use Rattle.px_life.specs.Front.{AreStored}
 use Rattle.px_log.specs.Contents.{IsDamage as IsLogDamage, Scans}
 use Rattle.px_log.specs.Log.{most_frames}
 use Rattle.px_log.specs.declared.error.LogOpenError.{LogOpenError}
@@ -99,14 +100,15 @@ IsDamage restart bytes file place = IsDamagedLog restart bytes file place ⊎ (A
 
 -- ---- no room
 
--- A version is to be unlinked in a frame of this number, which the log doesn't take: it would be one of those behind the frames that were
--- read, of which there are as many as versions that nobody will see.
+-- The cells are sound, each version in them has a stored number, and one is to be unlinked in a frame of this number, which the log doesn't
+-- take: it would be one of those behind the frames that were read, of which there are as many as versions that nobody will see.
 pub record HasNoRoom (restart : Restart) (bytes : List ℕ) (frame : ℕ) : Type 0 where
   pub changes : List Change
   pub scan : Scans restart bytes changes
   pub found : Tables
   pub layouts : Layouts
   pub opens : Opens restart.short restart.tables (changes_over none_laid changes) found layouts
+  pub stored : AreStored found layouts
   pub next : ℕ
   pub is_next : IsNext restart changes found layouts next
   pub none_left : most_frames ≤ frame

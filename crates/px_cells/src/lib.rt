@@ -1,7 +1,7 @@
 //! The cells of the table files: what they are, apart from their bytes.
 //!
 //! A table has one header, slots and row pointers, and each of them is a cell. A row pointer heads a chain of slots, one for
-//! each variation (row version) of its key, the newest first. A free slot and a free row pointer stand on a free list that
+//! each version of its key, the newest first. A free slot and a free row pointer stand on a free list that
 //! the header heads. A change of the log is the new bytes of a few cells.
 //!
 //! - `header`, `pointer`, `slot`: the three kinds of cell. `specs/Form` says which slots a store may have.

@@ -14,7 +14,7 @@ pub enum SlotState {
     Deletion,
 }
 
-/// A slot: one variation of a row, or a place on the free list.
+/// A slot: one version of a row, or a place on the free list.
 ///
 /// `specs/Form` says which values a store may have. A slot that was freed keeps its key and its tag, one that was never used
 /// has an empty key and only zeros.
@@ -23,7 +23,7 @@ pub struct Slot {
     pub state: SlotState,
     /// The stored number of the transaction that wrote it.
     pub xn: u64,
-    /// The slot of the next older variation; of a free one the next free slot. 0 for none.
+    /// The slot of the next older version; of a free one the next free slot. 0 for none.
     pub next: u32,
     /// The number of its row pointer.
     pub row: u32,

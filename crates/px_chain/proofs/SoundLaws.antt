@@ -25,7 +25,7 @@ used_or_not table row = ⊎_elim
     (cases_lt table.header.rows row))
     (cases_lt row 1)
 
--- what stands in a chain is a variation of a used row
+-- what stands in a chain is a version of a used row
 pub chained : (short : ℕ) (table : Table) (layout : Layout) → IsSound short table layout → (row slot : ℕ) → Contains (layout.chain row) slot → IsUsedRow table row × IsVariation table row slot
 chained short table layout sound row slot there = ⊎_elim
     (λ (used : IsUsedRow table row). (used, All-contains (IsVariation table row) (layout.chain row) slot (sound.chains row used).variations there))

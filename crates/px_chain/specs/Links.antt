@@ -45,7 +45,7 @@ pub record BeginsRow (table : Table) (header : Header) (slot : Slot) : Type 0 wh
   pub next : slot.next ≡ 0
   pub its_key : (row : ℕ) → IsUsedRow table row → key_of table row ≢ slot.key
 
--- The slot is a new variation of a row of the table: the header is the one after a slot was taken.
+-- The slot is a new version of a row of the table: the header is the one after a slot was taken.
 pub record VariesRow (table : Table) (header : Header) (slot : Slot) : Type 0 where
   pub slots : slots_of header ≡ after_taking (slots_of table.header) (next_slot table table.header.free_slot)
   pub rows : rows_of header ≡ rows_of table.header

@@ -44,18 +44,18 @@ IsUsedRow table row = IsPlace (rows_of table.header) row × ((table.pointer row)
 abbrev pub head_of : Table → ℕ → ℕ
 head_of table row = (table.pointer row).head
 
--- the key of a row: that of its newest variation
+-- the key of a row: that of its newest version
 abbrev pub key_of : Table → (row : ℕ) → List ℕ
 key_of table row = (table.slot (head_of table row)).key
 
--- the slot holds a variation of the row
+-- the slot holds a version of the row
 pub record IsVariation (table : Table) (row slot : ℕ) : Type 0 where
   pub place : IsSlot table slot
   pub used : ¬ IsFreeSlot table slot
   pub its_row : (table.slot slot).row ≡ row
   pub its_key : (table.slot slot).key ≡ key_of table row
 
--- a used row pointer heads a chain of variations of its row, the newest first
+-- a used row pointer heads a chain of versions of its row, the newest first
 pub record IsChain (table : Table) (row : ℕ) (chain : List ℕ) : Type 0 where
   pub walk : Walks (next_slot table) (head_of table row) chain 0
   pub some : chain ≢ []

@@ -1,4 +1,4 @@
--- Which variation of a chain a reader sees.
+-- Which version of a chain a reader sees.
 use Rattle.std.specs.Prelude.{ℕ, Bool, true, false, ◌==◌, ◌||◌, nat_lt}
 use Rattle.px_model.specs.declared.standing.Standing.{Standing}
 use Rattle.px_model.specs.declared.standing.Standing.TheVariants.{Before, Open, RolledBack, Committed}

@@ -14,7 +14,7 @@ pub fn no_cells_are_sound()
     ensures { (short : ℕ) (table : Table) → table.header ≡ no_places → IsSound short table no_layout }
 {}
 
-/// The first variation of a row, in a slot and under a row pointer that were just taken: its cells over sound cells are sound,
+/// The first version of a row, in a slot and under a row pointer that were just taken: its cells over sound cells are sound,
 /// with a chain of this slot alone, and all else is as before.
 pub fn a_new_row_is_sound()
     ensures { (short : ℕ) (table : Table) (layout : Layout) (header : Header) (slot : Slot)
@@ -23,7 +23,7 @@ pub fn a_new_row_is_sound()
         (linked (row_taken (slot_taken layout)) (next_place (slots_of table.header)) slot.row) }
 {}
 
-/// Another variation of a row, in a slot that was just taken: its cells over sound cells are sound, with it in front of the
+/// Another version of a row, in a slot that was just taken: its cells over sound cells are sound, with it in front of the
 /// row's chain, and all else is as before.
 pub fn a_new_variation_is_sound()
     ensures { (short : ℕ) (table : Table) (layout : Layout) (header : Header) (slot : Slot)
@@ -32,7 +32,7 @@ pub fn a_new_variation_is_sound()
         (linked (slot_taken layout) (next_place (slots_of table.header)) slot.row) }
 {}
 
-/// The cells of an unlink, over sound cells, are sound: the row's chain lacks just these variations, whose slots are in front
+/// The cells of an unlink, over sound cells, are sound: the row's chain lacks just these versions, whose slots are in front
 /// of the free list, as is the row pointer where none is left, and all else is as before.
 pub fn unlinked_cells_are_sound()
     ensures { (short : ℕ) (table : Table) (layout : Layout) (row from count : ℕ)
@@ -63,7 +63,7 @@ pub fn rows_keep_their_keys()
 {}
 
 /// The cells of an unlink are in the order that a change has them, each once: the slots' numbers rise. They are two more than
-/// the variations.
+/// the versions.
 pub fn unlinked_cells_are_in_order()
     ensures order { (short : ℕ) (table : Table) (layout : Layout) (row from count : ℕ) → IsSound short table layout
         → Rise (unlinked_slots table.header (parts_of (chain_of table (layout.chain row)) from count)) }
@@ -86,7 +86,7 @@ pub fn neighbours_stand_beside_a_run()
         → near_of (parts_of (chain_of table (layout.chain row)) from count) ≡ near_at table (layout.chain row) from count }
 {}
 
-/// A row pointer leads to the first slot of its row's chain, and each slot there, which holds a variation of the row, to the one
+/// A row pointer leads to the first slot of its row's chain, and each slot there, which holds a version of the row, to the one
 /// behind it.
 pub fn each_slot_leads_to_the_one_behind()
     ensures head { (short : ℕ) (table : Table) (layout : Layout) (row : ℕ) → IsSound short table layout → IsUsedRow table row

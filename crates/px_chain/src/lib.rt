@@ -1,13 +1,13 @@
-//! The chains of a table's variations: what makes cells sound, and the cells that link and unlink variations.
+//! The chains of a table's versions: what makes cells sound, and the cells that link and unlink versions.
 //!
-//! A row pointer heads the chain of a row's variations, the newest first; the slots and row pointers that are in no chain stand on
+//! A row pointer heads the chain of a row's versions, the newest first; the slots and row pointers that are in no chain stand on
 //! free lists. `link` and `unlink` compute the few cells that a change of the log carries. They see only what they are given, so
 //! that cells stay sound is a law of its own.
 //!
 //! - `chain`: `Linked`, a slot with its number.
 //! - `linking`, `unlinking`: `link`, and `unlink` with what it changes apart from its bytes, `Unlinked`; `cut` has what it reads, the
 //!   slots that go and their neighbours, `cells` the cells' bytes.
-//! - `views`: `visible`, the variation that a reader sees.
+//! - `views`: `visible`, the version that a reader sees.
 //! - `laws`: cells of a link or an unlink, over sound cells, are sound; what sound cells are has one layout.
 //!
 //! `specs/Sound` says what sound cells are, `specs/Places` which slots stand where in a chain, `specs/Links` what a link and an

@@ -28,7 +28,7 @@ is_number_of m xact (Some xn) = xn == m.base + xact.number
 abbrev pub sees : Machine → Open → Variation → Bool
 sees m xact v = is_number_of m xact v.xn || is_done xact.snap (standing_in m v.xn)
 
--- the newest variation of the key that it sees
+-- the newest version of the key that it sees
 unfoldable pub seen : Machine → Open → Key → Option Variation
 seen m xact key = find (sees m xact) (reverse (chain m key))
 
@@ -44,7 +44,7 @@ is_committed OpenYet = false
 is_committed RolledBack = false
 is_committed (Committed place) = true
 
--- the newest variation of the key whose transaction committed since the opening
+-- the newest version of the key whose transaction committed since the opening
 unfoldable pub newest_committed : Machine → Key → Option Variation
 newest_committed m key = find (λ v. is_committed (standing_in m v.xn)) (reverse (chain m key))
 
@@ -52,7 +52,7 @@ abbrev pub number_in : Machine → Option ℕ → Option ℕ
 number_in m None = None
 number_in m (Some xn) = Some (xn - m.base)
 
--- the number of the variation's transaction, unless that was done before the snapshot
+-- the number of the version's transaction, unless that was done before the snapshot
 abbrev pub writer_past : Machine → (snap : ℕ) → Option Variation → Option ℕ
 writer_past m snap None = None
 writer_past m snap (Some v) = if is_done snap (standing_in m v.xn) then None else number_in m v.xn

@@ -17,7 +17,7 @@ abbrev pub base_left : Machine → Flat → (base : List Variation) → List Var
 base_left m w base =
     if w.committed then (if is_put w.write then of_ended m.base w ∷ [] else []) else base
 
--- The swept write is the oldest variation of its key above the base.
+-- The swept write is the oldest version of its key above the base.
 pub record IsSweptFrom (m : Machine) (w : Flat) : Type 0 where
   pub newer : List Variation
   pub was : chain m (key_written w.write) ≡ base_of m (key_written w.write) ++ of_ended m.base w ∷ newer

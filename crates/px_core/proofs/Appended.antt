@@ -181,7 +181,7 @@ framed_does {W} tells state counts session call old new Holds step reply appends
   others = others_on tells state old new appends.others;
   refused = tt;
   full = λ t m works holds. tt;
-  sound = λ t m works. tt;
+  sound = λ t. tt;
   steady = whole;
   well = record {
     store = after_step well.store step;
@@ -279,7 +279,7 @@ module _ {W : Type 0} (tells : Type 0) (state : W → State) (counts : W → Cou
     others = others_on tells state old new fails.others;
     refused = refuses error fails short meets;
     full = λ t m works holds. finds_full error fails m (adds t m works holds);
-    sound = λ t m works. passes error;
+    sound = λ t. passes error;
     steady = tt;
     well = fails_well error fails;
     none_fell = fails.none_fell;

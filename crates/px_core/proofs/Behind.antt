@@ -123,7 +123,7 @@ module _ {W : Type 0} (tells : Type 0) (state : W → State) (counts : W → Cou
         subst (λ (s : State). EachMoment (LeavesOthers s.now) s (state new.site)) (still.same t) (does.others t m (later_works t m works));
     refused = refused_behind result does.refused;
     full = λ t m works holds. full_behind m result (does.full t m (later_works t m works) (then t m works holds));
-    sound = λ t m works. does.sound t m (later_works t m works);
+    sound = does.sound;
     steady = does.steady;
     well = does.well;
     none_fell = then_none_fell fell does.none_fell;

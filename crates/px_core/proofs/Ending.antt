@@ -271,7 +271,7 @@ module _ {W : Type 0} (tells : Type 0) (state : W → State) (counts : W → Cou
     others = both_others;
     refused = tt;
     full = λ t m works holds. tt;
-    sound = λ t m works. tt;
+    sound = λ t. tt;
     steady = whole;
     well = both_well count;
     none_fell = then_none_fell appends.none_fell flushes.none_fell;
@@ -310,7 +310,7 @@ module _ {W : Type 0} (tells : Type 0) (state : W → State) (counts : W → Cou
     others = both_others;
     refused = refuses_sync error kept cause own;
     full = λ t m works holds n is. absurd (not_full error n is);
-    sound = λ t m works. passes error;
+    sound = λ t. passes error;
     steady = tt;
     well = both_well (let count = ap (λ (a : Active). a.commits) same in omega (arith, count));
     none_fell = then_none_fell appends.none_fell flushes.none_fell;

@@ -1,7 +1,7 @@
 -- Where the version of a write goes, and why it isn't made.
 use Rattle.std.proofs.Common.{◌≡◌, ℕ, ◌≤◌, ◌<◌, true, false, List, length, Option, Some, Ok, Err, refl, sym, ap, subst, ◌∙◌, inl, inr, arith}
-use Rattle.std.proofs.lemmas.Bool.{cases_Bool, leb-true, true≢false}
-use Rattle.std.specs.Prelude.{IfSome, IsNone, IsSomeAnd, nat_le}
+use Rattle.std.proofs.lemmas.Bool.{true≢false}
+use Rattle.std.specs.Prelude.{IfSome, IsNone, IsSomeAnd}
 use Rattle.px_answers.specs.declared.caller.Caller.{Caller}
 use Rattle.px_answers.specs.declared.writing.Asked.{Asked}
 use Rattle.px_answers.specs.declared.writing.Writer.{Writer}
@@ -12,16 +12,16 @@ use Rattle.px_calls.specs.declared.call.Call.{Call}
 use Rattle.px_calls.specs.declared.call.Call.TheVariants.{Delete, Insert, Update}
 use Rattle.px_calls.specs.declared.reply.Reply.{Reply}
 use Rattle.px_calls.specs.Steps.{is_full, is_refusal, reply_of}
+use Rattle.px_chain.specs.Table.{Table}
 use Rattle.px_chain_laws.specs.Writing.{write_of as write_by}
-use Rattle.px_counted.proofs.Variations.{full_for_a_key, used_less_free, variations_fill}
+use Rattle.px_counted.proofs.Variations.{full_for_calls, room_for_calls}
 use Rattle.px_held.specs.declared.error.HeldError.{HeldError}
 use Rattle.px_held.specs.Errors.{HasReadCause, IsPassing}
 use Rattle.px_held.specs.Linking.{HasPlaceFor, IsNextPlace}
 use Rattle.px_held.specs.Serving.{HasSameForm, Serves}
 use Rattle.px_history.specs.Fitting.{IsStoredNumber}
 use Rattle.px_history.specs.Store.{Store}
-use Rattle.px_model.specs.Chains.{variations_of_table}
-use Rattle.px_model.specs.declared.limits.TheConstants.{MOST_VARIATIONS, MOST_WRITES}
+use Rattle.px_model.specs.declared.limits.TheConstants.{MOST_WRITES}
 use Rattle.px_model.specs.declared.write.Write.{Write}
 use Rattle.px_model.specs.declared.write.Write.TheVariants.{Put, Delete as DeleteRow}
 use Rattle.px_model.specs.Machine.{Machine}
@@ -36,7 +36,7 @@ use Rattle.px_working.specs.Follows.{last_store}
 use Rattle.px_xacts.specs.declared.transaction.Transaction.{Transaction}
 use Rattle.px_xacts.specs.Transactions as xacts
 use Rattle.px_core.specs.Serving.{Finds, HasRoom, IsSmallWrite, MayPut}
-use Rattle.px_core.specs.Working.{CountsVersions, WorksFor}
+use Rattle.px_core.specs.Working.{WorksFor}
 use Rattle.px_core.specs.declared.state.Kept.{Kept}
 use Rattle.px_core.specs.declared.state.writing.Ready.{Ready}
 
@@ -110,27 +110,15 @@ room_for old new session call caller asked writer place asks on form active is_s
 
 -- ---- whether the table is full
 
-module _ {W : Type 0} (state : W → State) (old : Kept W) (m : Machine) (works : WorksFor state old m) (counts : CountsVersions m) (table : ℕ) (key : List ℕ) where
-  abbrev store : Store
-  store = last_store works.life
+module _ {W : Type 0} (state : W → State) (old : Kept W) (m : Machine) (works : WorksFor state old m) (table : ℕ) (key : List ℕ) where
+  abbrev its_table : Table
+  its_table = (last_store works.life).tables table
 
-  most : variations_of_table m table ≤ MOST_VARIATIONS
-  most =
-      let counted = used_less_free no_parts m store table works.works.holds works.order in
-      let slots = (works.has.store.places table).slots in
-      omega (arith, counted, slots)
+  pub full_there : IsFull its_table key → is_full m table ≡ true
+  full_there = full_for_calls no_parts m (last_store works.life) table key works.works.holds works.order (works.has.store.places table).slots
 
-  pub full_there : IsFull (store.tables table) key → is_full m table ≡ true
-  full_there full =
-      let all = full_for_a_key no_parts m store table key works.works.holds works.order (works.has.store.places table).slots full in
-      counts.full table ∙ grind (arith, all)
-
-  pub not_full_there : (IsFull (store.tables table) key → ⊥) → is_full m table ≡ false
-  not_full_there room = counts.full table ∙ elim (cases_Bool (nat_le MOST_VARIATIONS (variations_of_table m table))) [
-    | inl from ↦ absurd (room (inl (variations_fill no_parts m store table works.works.holds works.order (works.has.store.places table).slots
-        (let least = leb-true MOST_VARIATIONS (variations_of_table m table) from in omega (arith, least, most)))))
-    | inr less ↦ less
-  ]
+  pub not_full_there : (IsFull its_table key → ⊥) → is_full m table ≡ false
+  not_full_there = room_for_calls no_parts m (last_store works.life) table key works.works.holds works.order (works.has.store.places table).slots
 
 -- ---- what was found
 
@@ -143,25 +131,25 @@ module _ {W : Type 0} (tells : Type 0) (state : W → State) (counts : W → Cou
     rest = rest;
     reads = record { stays = stays; cause = record { fault = fault; sound = sound } };
     room = tt;
-    may = λ t m works counted. tt;
+    may = λ t m works. tt;
     refusal = tt;
-    refused = λ t m works counted. tt;
+    refused = λ t m works. tt;
   }
 
   pub found_refusal : (reply : Reply) → is_refusal reply ≡ true
-      → (tells → (m : Machine) → WorksFor state old m → CountsVersions m → reply ≡ reply_of m session call)
+      → (tells → (m : Machine) → WorksFor state old m → reply ≡ reply_of m session call)
       → Finds tells state counts session call old new (Ok (Err reply))
   found_refusal reply refuses is = record {
     rest = rest;
     reads = record { stays = stays; cause = record { fault = tt; sound = λ t short store serves sound. tt } };
     room = tt;
-    may = λ t m works counted. tt;
+    may = λ t m works. tt;
     refusal = refuses;
     refused = is;
   }
 
   pub found_room : (ready : Ready) → HasRoom new session call ready
-      → (tells → (m : Machine) (works : WorksFor state old m) → CountsVersions m → MayPut m (last_store works.life) session call ready)
+      → (tells → (m : Machine) (works : WorksFor state old m) → MayPut m (last_store works.life) session call ready)
       → Finds tells state counts session call old new (Ok (Ok ready))
   found_room ready room may = record {
     rest = rest;
@@ -169,7 +157,7 @@ module _ {W : Type 0} (tells : Type 0) (state : W → State) (counts : W → Cou
     room = room;
     may = may;
     refusal = tt;
-    refused = λ t m works counted. tt;
+    refused = λ t m works. tt;
   }
 
 pub may_put : (m : Machine) (store : Store) (session : ℕ) (call : Call) (asked : Asked) (writer : Writer) (place : Place) → IsAskedAs call asked

@@ -37,7 +37,7 @@ use Rattle.px_core.specs.Serving.{Does, MeetsOwn, Reads}
 use Rattle.px_core.specs.Working.{WorksFor}
 use Rattle.px_core.specs.declared.state.Kept.{Kept}
 use Rattle.px_core.proofs.Leaving.{read_leaves}
-use Rattle.px_core.proofs.Still.{Still, read_refused, sees, still_answered}
+use Rattle.px_core.proofs.Still.{Still, read_refused, sees, still_answered, well_sound}
 
 pub no_end : (call : Call) → adds_nothing call ≡ true → (P : Type 0) → UnlessEnd call P
 no_end Commit silent P = absurd cc
@@ -77,7 +77,7 @@ module _ {W : Type 0} (tells : Type 0) (state : W → State) (counts : W → Cou
   reads_refused error reads =
       read_refused tells state counts session call old new Holds (reads_still (Err error) reads) well whole reads.commits reads.reads.stays.none_fell reads.err
       (no_end call silent) error reads.reads.cause.fault reads.meets
-      (λ t m works. reads.reads.cause.sound t m.short (last_store works.life) works.has.store.serves works.works.holds.sound)
+      (λ t. reads.reads.cause.sound t old.held.short well.store well.has.serves (well_sound state old well))
 
 -- ---- one call each
 

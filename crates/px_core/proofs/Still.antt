@@ -9,6 +9,7 @@ use Rattle.px_calls.specs.Steps.{reply_of, state_after}
 use Rattle.px_cell_laws.specs.Locating.{AreWrittenAt}
 use Rattle.px_cell_standing.proofs.Going.{call_names}
 use Rattle.px_cell_standing.specs.Found.{CanBeFound}
+use Rattle.px_held.proofs.Serving.{served}
 use Rattle.px_held.specs.declared.error.HeldError.{HeldError}
 use Rattle.px_held.specs.declared.error.HeldError.TheVariants as held
 use Rattle.px_held.specs.Errors as held_errors
@@ -20,6 +21,7 @@ use Rattle.px_model.specs.declared.row.Row.{Row}
 use Rattle.px_model.specs.Machine.{Machine, commits}
 use Rattle.px_model.specs.Rows.{in_order}
 use Rattle.px_shown.specs.Parts.{no_parts}
+use Rattle.px_shown.specs.Tables.{AreSound}
 use Rattle.px_site.proofs.Moments.{same_moment}
 use Rattle.px_site.specs.Cause.{Counts, NoneFell, Rose}
 use Rattle.px_site.specs.declared.error.Fault.{Fault}
@@ -53,6 +55,10 @@ sees state core m works = record {
   short = sym works.has.store.short ∙ works.has.short ∙ works.works.short;
   tables = works.has.store.tables ∙ works.has.tables ∙ works.works.tables;
 }
+
+-- what a core holds is sound, whatever the site has
+pub well_sound : {W : Type 0} (state : W → State) (core : Kept W) (well : IsWell state core) → AreSound core.held.short well.store.tables well.store.layouts
+well_sound state core well = (served (state core.site) core.held well.store well.has.serves).sound
 
 -- the tables serve what they served, and log and error are the same; where the site tells, nothing happened
 pub record Still {W : Type 0} (tells : Type 0) (state : W → State) (old new : Kept W) : Type 0 where
@@ -164,7 +170,7 @@ module _ {W : Type 0} (tells : Type 0) (state : W → State) (counts : W → Cou
     others = λ t m works. same_moment (still.same t);
     refused = tt;
     full = λ t m works holds. tt;
-    sound = λ t m works. tt;
+    sound = λ t. tt;
     steady = still.error ∙ whole;
     well = still_well tells state old new still count well;
     none_fell = fell;
@@ -173,7 +179,7 @@ module _ {W : Type 0} (tells : Type 0) (state : W → State) (counts : W → Cou
   -- ---- it gave up
 
   pub still_refused : new.active ≡ old.active → (error : CoreError) → Refuses tells state counts call old new error
-      → ((n : ℕ) → error ≢ LogFull n) → (tells → (m : Machine) → WorksFor state old m → IsPassing error)
+      → ((n : ℕ) → error ≢ LogFull n) → (tells → IsPassing error)
       → Does tells state counts session call old new Holds (Err error)
   still_refused same error refuses other sound = record {
     answered = λ t m works holds. tt;
@@ -190,14 +196,14 @@ module _ {W : Type 0} (tells : Type 0) (state : W → State) (counts : W → Cou
   pub out_of_memory : new.active ≡ old.active → UnlessEnd call (Rose (counts old.site).shorts (counts new.site).shorts)
       → Does tells state counts session call old new Holds (Err OutOfMemory)
   out_of_memory same rose =
-      still_refused same OutOfMemory (record { leaves = inl (before_still tells state old new still same); cause = rose }) (λ n is. absurd cc) (λ t m works. tt)
+      still_refused same OutOfMemory (record { leaves = inl (before_still tells state old new still same); cause = rose }) (λ n is. absurd cc) (λ t. tt)
 
   read_fault : (fault : Fault) → fault ≡ Read → AsBefore tells state old new → LeavesAtFault tells state fault old new
   read_fault fault is before = subst (λ (f : Fault). LeavesAtFault tells state f old new) (sym is) before
 
   pub read_refused : new.active ≡ old.active → ((P : Type 0) → UnlessEnd call P) → (error : HeldError)
       → held_errors.HasReadCause (counts old.site) (counts new.site) error → MeetsOwn call error
-      → (tells → (m : Machine) → WorksFor state old m → held_errors.IsPassing error)
+      → (tells → held_errors.IsPassing error)
       → Does tells state counts session call old new Holds (Err (of_held error))
   read_refused same no_end held.OutOfMemory cause meets sound = out_of_memory same (no_end (Rose (counts old.site).shorts (counts new.site).shorts))
   read_refused same no_end (held.Fault fault) cause meets sound =
@@ -206,7 +212,6 @@ module _ {W : Type 0} (tells : Type 0) (state : W → State) (counts : W → Cou
         leaves = read_fault fault cause.0 (before_still tells state old new still same);
         cause = (meets, subst (λ (f : Fault). Rose ((counts old.site).faults f) ((counts new.site).faults f)) (sym cause.0) cause.1);
       })
-      (λ n is. absurd cc) (λ t m works. tt)
+      (λ n is. absurd cc) (λ t. tt)
   read_refused same no_end (held.Damaged file place) cause meets sound =
-      still_refused same (Damaged file place) (record { leaves = before_still tells state old new still same; cause = tt }) (λ n is. absurd cc)
-      (λ t m works. sound t m works)
+      still_refused same (Damaged file place) (record { leaves = before_still tells state old new still same; cause = tt }) (λ n is. absurd cc) sound

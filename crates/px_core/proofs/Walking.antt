@@ -13,14 +13,13 @@ use Rattle.px_model.specs.declared.row.Row.{Row}
 use Rattle.px_model.specs.Machine.{Machine}
 use Rattle.px_site.specs.Cause.{Counts}
 use Rattle.px_site.specs.State.{State}
-use Rattle.px_working.specs.Follows.{last_store}
 use Rattle.px_core.specs.Core.{HasRowCause, IsWell}
 use Rattle.px_core.specs.Errors.{IsPassing, of_held}
 use Rattle.px_core.specs.Serving.{Walks}
 use Rattle.px_core.specs.Working.{WorksFor}
 use Rattle.px_core.specs.declared.error.CoreError.{CoreError}
 use Rattle.px_core.specs.declared.state.Kept.{Kept}
-use Rattle.px_core.proofs.Still.{Still, before_still, still_well}
+use Rattle.px_core.proofs.Still.{Still, before_still, still_well, well_sound}
 
 read_cause : {W : Type 0} (counts : W → Counts) (old new : Kept W) (error : HeldError) → held_errors.HasReadCause (counts old.site) (counts new.site) error
     → HasRowCause counts old new (of_held error)
@@ -46,7 +45,7 @@ module _ {W : Type 0} (tells : Type 0) (state : W → State) (counts : W → Cou
 
   walks : (walk : Result (Option Row) HeldError) (result : Result (Option Row) CoreError) → ReadsOnly tells state counts old.site new.site old.held new.held walk
       → (tells → (m : Machine) → WorksFor state old m → IfOk result (λ row. row ≡ first_past after (rows_now m)))
-      → IfErr result (HasRowCause counts old new) → (tells → (m : Machine) → WorksFor state old m → IfErr result IsPassing)
+      → IfErr result (HasRowCause counts old new) → (tells → IfErr result IsPassing)
       → Walks tells state counts after old new result
   walks walk result reads row cause sound =
       let still = walk_still walk reads in
@@ -64,10 +63,10 @@ module _ {W : Type 0} (tells : Type 0) (state : W → State) (counts : W → Cou
 
   pub walk_answered : (found : Option Row) → ReadsOnly tells state counts old.site new.site old.held new.held (Ok found)
       → (tells → (m : Machine) → WorksFor state old m → found ≡ first_past after (rows_now m)) → Walks tells state counts after old new (Ok found)
-  walk_answered found reads row = walks (Ok found) (Ok found) reads row tt (λ t m works. tt)
+  walk_answered found reads row = walks (Ok found) (Ok found) reads row tt (λ t. tt)
 
   pub walk_refused : (error : HeldError) → ReadsOnly {T = Option Row} tells state counts old.site new.site old.held new.held (Err error)
       → Walks tells state counts after old new (Err (of_held error))
   walk_refused error reads =
       walks (Err error) (Err (of_held error)) reads (λ t m works. tt) (read_cause counts old new error reads.cause.fault)
-      (λ t m works. read_passes error (reads.cause.sound t m.short (last_store works.life) works.has.store.serves works.works.holds.sound))
+      (λ t. read_passes error (reads.cause.sound t old.held.short well.store well.has.serves (well_sound state old well)))

@@ -1,6 +1,7 @@
 -- A write: its version, and the frame of it.
 use Rattle.std.proofs.Common.{◌≡◌, ◌≢◌, ℕ, ◌≤◌, true, false, List, length, Some, None, Result, Ok, Err, refl, sym, ap, subst, ◌∙◌, inl, inr, arith}
 use Rattle.std.proofs.lemmas.Bool.{true≢false}
+use Rattle.std.specs.Prelude.{⊤}
 use Rattle.px_active.proofs.Calls.{refused_leaves as refused_keeps}
 use Rattle.px_active.specs.Active.{IsActiveOf}
 use Rattle.px_active.specs.declared.active.Active.{Active}
@@ -61,7 +62,7 @@ use Rattle.px_xacts_laws.specs.Mirrors.{key_at}
 use Rattle.px_core.specs.Core.{IsWell, MayMeet, UnlessEnd, is_write}
 use Rattle.px_core.specs.Errors.{of_held}
 use Rattle.px_core.specs.Serving.{Does, Finds, HasRoom, IsSmallWrite, MayPut, MeetsOwn, Serves}
-use Rattle.px_core.specs.Working.{CountsFor, CountsVersions, WorksFor}
+use Rattle.px_core.specs.Working.{WorksFor}
 use Rattle.px_core.specs.declared.error.CoreError.{CoreError}
 use Rattle.px_core.specs.declared.error.CoreError.TheVariants.{OutOfMemory}
 use Rattle.px_core.specs.declared.state.Kept.{Kept}
@@ -70,7 +71,7 @@ use Rattle.px_core.proofs.Appended.{FollowsBy, IsFramed}
 use Rattle.px_core.proofs.Behind.{does_behind}
 use Rattle.px_core.proofs.Ending.{unmoved}
 use Rattle.px_core.proofs.Leaving.{refused_leaves}
-use Rattle.px_core.proofs.Still.{Still, out_of_memory, read_refused, still_answered, still_well}
+use Rattle.px_core.proofs.Still.{Still, out_of_memory, read_refused, still_answered, still_well, well_sound}
 
 -- ---- a version
 
@@ -247,12 +248,6 @@ module _ {W : Type 0} (state : W → State) (session : ℕ) (call : Call) (ready
 
 -- ---- before it
 
-pub counted_for : (call : Call) (m : Machine) → is_write call ≡ true → CountsFor call m → CountsVersions m
-counted_for (Insert table key tag body) m writes counts = counts
-counted_for (Update table key tag body) m writes counts = counts
-counted_for (Delete table key) m writes counts = counts
-counted_for _ m writes counts = absurd (true≢false (sym writes))
-
 pub write_reads : (call : Call) (fault : Fault) → is_write call ≡ true → fault ≡ Read → MayMeet call fault
 write_reads (Insert table key tag body) fault writes is = inl is
 write_reads (Update table key tag body) fault writes is = inl is
@@ -299,18 +294,18 @@ module _ {W : Type 0} (tells : Type 0) (state : W → State) (counts : W → Cou
   pub write_gives_up : (error : HeldError) → Finds tells state counts session call old mid (Err error) → Serves tells state counts session call old mid (Err (of_held error))
   write_gives_up error finds =
       let same = finds_same (Err error) finds in
-      read_refused tells state counts session call old mid (λ m works. CountsFor call m) (finds_still (Err error) finds) well whole (ap (λ (a : Active). a.commits) same)
+      read_refused tells state counts session call old mid (λ m works. ⊤) (finds_still (Err error) finds) well whole (ap (λ (a : Active). a.commits) same)
       finds.reads.stays.none_fell same (write_no_end call writes) error finds.reads.cause.fault
       (meets_own call (counts old.site) (counts mid.site) error writes finds.reads.cause.fault)
-      (λ t m works. finds.reads.cause.sound t m.short (last_store works.life) works.has.store.serves works.works.holds.sound)
+      (λ t. finds.reads.cause.sound t old.held.short well.store well.has.serves (well_sound state old well))
 
   pub write_refused : (reply : Reply) → Finds tells state counts session call old mid (Ok (Err reply)) → Serves tells state counts session call old mid (Ok reply)
   write_refused reply finds =
       let same = finds_same (Ok (Err reply)) finds in
-      still_answered tells state counts session call old mid (λ m works. CountsFor call m) (finds_still (Ok (Err reply)) finds) well whole
+      still_answered tells state counts session call old mid (λ m works. ⊤) (finds_still (Ok (Err reply)) finds) well whole
       (ap (λ (a : Active). a.commits) same) finds.reads.stays.none_fell reply
       (λ t m works holds.
-      let is = finds.refused t m works (counted_for call m writes holds) in
+      let is = finds.refused t m works in
       let refused : is_refusal (reply_of m session call) ≡ true = ap is_refusal (sym is) ∙ finds.refusal in
       record {
         reply_is = is;
@@ -324,8 +319,8 @@ module _ {W : Type 0} (tells : Type 0) (state : W → State) (counts : W → Cou
       → Serves tells state counts session call old new result
   write_does ready new result finds does =
       does_behind tells state counts session call old mid new (finds_still (Ok (Ok ready)) finds) (finds_same (Ok (Ok ready)) finds) finds.reads.stays.none_fell
-      (λ m works. CountsFor call m) (λ m works. MayPut m (last_store works.life) session call ready) result
-      (λ t m works holds. finds.may t m works (counted_for call m writes holds)) does
+      (λ m works. ⊤) (λ m works. MayPut m (last_store works.life) session call ready) result
+      (λ t m works holds. finds.may t m works) does
 
   pub write_well : (result : Result (Result Ready Reply) HeldError) → Finds tells state counts session call old mid result → IsWell state mid
   write_well result finds =

@@ -31,7 +31,7 @@ use Rattle.px_working.specs.Follows.{last_store}
 use Rattle.px_xacts.specs.Transactions as xacts
 use Rattle.px_core.specs.Core.{HasRowCause, IsWell, MayMeet}
 use Rattle.px_core.specs.Errors.{IsPassing}
-use Rattle.px_core.specs.Working.{Answers, CountsFor, CountsVersions, FindsFull, Refuses, StandsWithin, WorksFor}
+use Rattle.px_core.specs.Working.{Answers, FindsFull, Refuses, StandsWithin, WorksFor}
 use Rattle.px_core.specs.declared.error.CoreError.{CoreError}
 use Rattle.px_core.specs.declared.state.Kept.{Kept}
 use Rattle.px_core.specs.declared.state.writing.Ready.{Ready}
@@ -72,7 +72,7 @@ pub record Does {W : Type 0} (tells : Type 0) (state : W → State) (counts : W 
   pub none_fell : NoneFell (counts old.site) (counts new.site)
 
 abbrev pub Serves : {W : Type 0} → Type 0 → (W → State) → (W → Counts) → ℕ → Call → Kept W → Kept W → Result Reply CoreError → Type 0
-Serves tells state counts session call old new result = Does tells state counts session call old new (λ m works. CountsFor call m) result
+Serves tells state counts session call old new result = Does tells state counts session call old new (λ m works. ⊤) result
 
 -- ---- a write
 
@@ -109,9 +109,9 @@ pub record Finds {W : Type 0} (tells : Type 0) (state : W → State) (counts : W
   pub rest : new ≡ record old { site = new.site; held = new.held }
   pub reads : ReadsOnly tells state counts old.site new.site old.held new.held result
   pub room : IfOk result (λ answer. IfOk answer (HasRoom new session call))
-  pub may : tells → (m : Machine) (works : WorksFor state old m) → CountsVersions m → IfOk result (λ answer. IfOk answer (MayPut m (last_store works.life) session call))
+  pub may : tells → (m : Machine) (works : WorksFor state old m) → IfOk result (λ answer. IfOk answer (MayPut m (last_store works.life) session call))
   pub refusal : IfOk result (λ answer. IfErr answer (λ reply. is_refusal reply ≡ true))
-  pub refused : tells → (m : Machine) → WorksFor state old m → CountsVersions m → IfOk result (λ answer. IfErr answer (λ reply. reply ≡ reply_of m session call))
+  pub refused : tells → (m : Machine) → WorksFor state old m → IfOk result (λ answer. IfErr answer (λ reply. reply ≡ reply_of m session call))
 
 -- ---- the committed rows
 

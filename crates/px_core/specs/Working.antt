@@ -1,5 +1,5 @@
 -- A core that works for a machine, and what a session's call does to it.
-use Rattle.std.specs.Prelude.{◌≡◌, ◌≢◌, ◌⊎◌, ⊤, ℕ, ◌+◌, ◌≤◌, nat_le, true, [], length, Some, None}
+use Rattle.std.specs.Prelude.{◌≡◌, ◌≢◌, ◌⊎◌, ℕ, ◌+◌, ◌≤◌, true, [], length, Some, None}
 use Rattle.px_site.specs.declared.error.Fault.{Fault}
 use Rattle.px_site.specs.declared.error.Fault.TheVariants.{Read}
 use Rattle.px_site.specs.declared.error.SiteError.{SiteError}
@@ -8,12 +8,9 @@ use Rattle.px_site.specs.State.{State, EachMoment}
 use Rattle.px_site.specs.Cause.{Counts, Rose}
 use Rattle.px_model.specs.Machine.{Machine, commits}
 use Rattle.px_model.specs.Rows.{in_order}
-use Rattle.px_model.specs.Chains.{variations_of_table}
-use Rattle.px_model.specs.declared.limits.TheConstants.{MOST_VARIATIONS}
 use Rattle.px_calls.specs.declared.call.Call.{Call}
-use Rattle.px_calls.specs.declared.call.Call.TheVariants.{Delete, Insert, Update}
 use Rattle.px_calls.specs.declared.reply.Reply.{Reply}
-use Rattle.px_calls.specs.Steps.{is_full, reply_of, state_after}
+use Rattle.px_calls.specs.Steps.{reply_of, state_after}
 use Rattle.px_active.specs.Active.{IsActiveOf}
 use Rattle.px_active.specs.declared.active.Active.{Active}
 use Rattle.px_cell_laws.specs.Locating.{AreWrittenAt}
@@ -59,17 +56,6 @@ pub record MayBegin (m : Machine) (life : Life) (restart : Restart) (marks : Mar
   pub found : CanBeFound m life restart o.site.now
   pub active_is : IsActiveOf m active
   pub fresh : active.xacts ≡ xacts.fresh m.base
-
--- Until the machine counts the versions of a table itself: it is full where it has as many as it may.
-pub record CountsVersions (m : Machine) : Type 0 where
-  pub full : (t : ℕ) → is_full m t ≡ nat_le MOST_VARIATIONS (variations_of_table m t)
-
--- only a write asks whether a table is full
-abbrev pub CountsFor : Call → Machine → Type 0
-CountsFor (Insert table key tag body) m = CountsVersions m
-CountsFor (Update table key tag body) m = CountsVersions m
-CountsFor (Delete table key) m = CountsVersions m
-CountsFor _ m = ⊤
 
 -- ---- a session's call
 

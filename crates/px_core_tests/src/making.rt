@@ -7,8 +7,8 @@ ghost use Rattle.px_held.specs.Serving.{AreNumbered};
 
 use px_active::Active;
 use px_calls::{Call, reply_text};
-use px_core::Core;
 use px_change::ChangeKind;
+use px_core::Core;
 use px_held::Held;
 use px_log::open_log;
 use px_memsite::MemSite;
@@ -18,11 +18,11 @@ use px_tables::Table;
 use std::alloc::{AllocError, Global};
 use std::test::Fail;
 
-/// A new store with one table, whose slots hold bodies of up to 16 bytes.
+/// A new store with one table, whose slots hold bodies of up to 64 bytes.
 const RESTART: Restart = Restart {
     serial: 1,
     tables: 1,
-    short: 16,
+    short: 64,
     commits: 0,
     next: 1,
     low: 1,
@@ -33,12 +33,12 @@ const RESTART: Restart = Restart {
 };
 
 fn tables(alloc: Global) -> Result<Vec<Table>, AllocError>
-    ensures numbered { IfOk result (λ tables. AreNumbered 16 tables.items) }
+    ensures numbered { IfOk result (λ tables. AreNumbered 64 tables.items) }
     ensures unused { IfOk result (λ tables. All (λ table. table.cells.header ≡ no_places) tables.items) }
     ensures count { IfOk result (λ tables. length tables.items ≡ 1) }
 {
     let mut tables = Vec::new(alloc);
-    tables.push(Table::new(alloc, 1, 16)?)?;
+    tables.push(Table::new(alloc, 1, 64)?)?;
     Ok(tables)
 }
 
@@ -46,7 +46,7 @@ fn tables(alloc: Global) -> Result<Vec<Table>, AllocError>
 pub(crate) fn new_core(alloc: Global) -> Result<Core<MemSite>, Fail> {
     let mut site = MemSite::new(alloc)?;
     let (log, _none) = open_log(alloc, &mut site, &RESTART)?;
-    let held = Held::new(16, tables(alloc)?);
+    let held = Held::new(64, tables(alloc)?);
     let active = Active::new(alloc, 0, 0)?;
     Ok(Core::new(alloc, site, held, active, log))
 }

@@ -1,7 +1,8 @@
 use crate::making::{answer, kinds_in_log, new_core};
+use crate::scripts::{SCRIPTS, TWO_SESSIONS};
 use px_calls::{Call, Event};
-use px_core::Core;
 use px_change::ChangeKind::{self, Commit, Put, Rollback};
+use px_core::Core;
 use px_memsite::MemSite;
 use px_model::Session;
 use px_script::{Line, parse_line};
@@ -9,42 +10,7 @@ use std::alloc::Global;
 use std::process::Abort;
 use std::test::Fail;
 
-/// Who calls what, and what is answered, whose own lines are parted by ` | `.
-const CALLS: &str = "
-a get 1 6b31 > no transaction
-a begin > began 1
-b begin > began 2
-a begin > open already
-a insert 1 6b31 7 616263 > inserted
-a get 1 6b31 > row 7 616263
-b get 1 6b31 > none
-b insert 1 6b31 0 - > conflict 1
-a insert 1 6b31 0 - > duplicate
-a update 1 6b32 0 - > missing
-a commit > committed 1
-b get 1 6b31 > none
-b update 1 6b31 0 - > conflict 1
-b commit > ended
-b begin > began 3
-b hold 1 6b31 > held 1
-b update 1 6b31 8 64 > updated
-b find 1 7 > found 0
-b find 1 8 > found 1 | at 6b31 8 64
-b delete 1 6b31 > deleted
-b scan 1 > found 0
-b fetch 1 > row 7 616263
-b rollback > rolled back
-b fetch 1 > no transaction
-a begin > began 4
-a scan 1 > found 1 | at 6b31 7 616263
-a insert 1 6b32 8 - > inserted
-a commit > committed 2
-b begin > began 5
-b scan 1 > found 2 | at 6b31 7 616263 | at 6b32 8 -
-b get 2 6b31 > no table
-";
-
-/// The frames of these calls: one of each write, one of each end of a transaction with writes.
+/// The frames that the calls of two sessions leave: one of each write, one of each end of a transaction with writes.
 const FRAMES: [ChangeKind; 7] = [Put, Commit, Put, Put, Rollback, Put, Commit];
 
 /// The session and the call of a line.
@@ -69,9 +35,14 @@ fn told(alloc: Global, answer: &str) -> Result<String, Fail> {
     Ok(text)
 }
 
-/// The core answers each call as written.
-fn run_calls(rt: &impl Abort, alloc: Global, core: &mut Core<MemSite>) -> Result<(), Fail> {
-    for line in CALLS.trim().lines() {
+/// The core answers each call of the script as written there.
+fn run_calls(
+    rt: &impl Abort,
+    alloc: Global,
+    core: &mut Core<MemSite>,
+    script: &str,
+) -> Result<(), Fail> {
+    for line in script.trim().lines() {
         let (asked, want) = line.split_once(" > ").ok_or("no answer")?;
         let (session, call) = call_of(alloc, asked)?;
         let got = answer(alloc, core, session, call)?;
@@ -83,8 +54,22 @@ fn run_calls(rt: &impl Abort, alloc: Global, core: &mut Core<MemSite>) -> Result
 #[test]
 fn two_sessions_are_answered_and_logged(rt: HostRuntime) -> Result<(), Fail> {
     let mut core = new_core(rt.alloc())?;
-    run_calls(&rt, rt.alloc(), &mut core)?;
+    run_calls(&rt, rt.alloc(), &mut core, TWO_SESSIONS)?;
     let kinds = kinds_in_log(rt.alloc(), core)?;
     assert!(rt; kinds.as_slice() == FRAMES.as_slice());
+    Ok(())
+}
+
+/// A script on a store of its own.
+fn run_anew(rt: &impl Abort, alloc: Global, script: &str) -> Result<(), Fail> {
+    let mut core = new_core(alloc)?;
+    run_calls(rt, alloc, &mut core, script)
+}
+
+#[test]
+fn scripts_are_answered_as_written(rt: HostRuntime) -> Result<(), Fail> {
+    for script in SCRIPTS {
+        run_anew(&rt, rt.alloc(), script)?;
+    }
     Ok(())
 }

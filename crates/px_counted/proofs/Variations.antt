@@ -1,11 +1,12 @@
--- A table's variations, by the chains of its keys and by the slots in them.
-use Rattle.std.proofs.Common.{◌≡◌, ◌≢◌, ℕ, ◌-◌, ◌^◌, ◌<◌, ◌≤◌, Bool, true, List, [], length, map, refl, sym, ap, subst, ◌∙◌, arith, ⊎_elim}
+-- A table's versions, by the chains of its keys and by the slots in them.
+use Rattle.std.proofs.Common.{◌≡◌, ◌≢◌, ℕ, ◌-◌, ◌^◌, ◌<◌, ◌≤◌, Bool, true, false, List, [], length, map, refl, sym, ap, subst, ◌∙◌, arith, inl, ⊎_elim}
 use Rattle.std.specs.Prelude.{Contains, count_by, filter, sum_by}
-use Rattle.std.proofs.lemmas.Bool.{cases_eq, eq-eqb, eqb-true, false_from_ne_true}
+use Rattle.std.proofs.lemmas.Bool.{cases_eq, eq-eqb, eqb-true, false_from_ne_true, le-leb, leb-true}
 use Rattle.std.proofs.lemmas.List.{length-map, length-reverse}
 use Rattle.std.proofs.lemmas.List.Elements.{All-contains, filter_passes}
 use Rattle.std.proofs.lemmas.List.Sums.{length-filter}
 use Rattle.px_free.specs.Places.{AreFull, rows_of, slots_of}
+use Rattle.px_calls.specs.Steps.{is_full}
 use Rattle.px_chain.specs.Sound.{IsUsedRow, key_of}
 use Rattle.px_history.specs.Store.{Store, versions_of}
 use Rattle.px_machine_laws.proofs.Overlap.{same_key-is}
@@ -36,7 +37,7 @@ key_in store t row = (t, key_of (store.tables t) row)
 abbrev keys_in : Store → (t : ℕ) → List Key
 keys_in store t = map (key_in store t) (used_rows (store.tables t))
 
--- the variations of a table
+-- the versions of a table
 abbrev writes_in : Machine → (t : ℕ) → List Write
 writes_in m t = filter (in_table t) (all_variations m)
 
@@ -113,7 +114,7 @@ are_keys parts m store t h opening = record {
       (cases_eq key.0 t);
 }
 
--- ---- the variations
+-- ---- the versions
 
 pub in_chains : (parts : Parts) (m : Machine) (store : Store) (t : ℕ) → HoldsChains parts m store → in_order m.opening ≡ true
     → variations_of_table m t ≡ slots_in_chains (store.tables t) (store.layouts t)
@@ -155,3 +156,32 @@ full_for_a_key parts m store t key h opening fits full =
     (λ (rows : AreFull (rows_of (store.tables t).header) × HasNoRow (store.tables t) key).
     slots_are_first m.short (store.tables t) (store.layouts t) (h.sound t) fits rows.0)
     full)
+
+-- ---- whether a call finds the table full
+
+least_is_full : (m : Machine) (t : ℕ) → variations_of_table m t ≡ MOST_VARIATIONS → is_full m t ≡ true
+unfolding is_full
+least_is_full m t most = le-leb MOST_VARIATIONS (variations_of_table m t) (omega (arith, most))
+
+at_most : (parts : Parts) (m : Machine) (store : Store) (t : ℕ) → HoldsChains parts m store → in_order m.opening ≡ true → (store.tables t).header.slots < 2 ^ 32
+    → variations_of_table m t ≤ MOST_VARIATIONS
+at_most parts m store t h opening fits = omega (arith, used_less_free parts m store t h opening, fits)
+
+-- where no place is left for the key, new or not
+pub full_for_calls : (parts : Parts) (m : Machine) (store : Store) (t : ℕ) (key : List ℕ) → HoldsChains parts m store → in_order m.opening ≡ true
+    → (store.tables t).header.slots < 2 ^ 32 → IsFull (store.tables t) key → is_full m t ≡ true
+full_for_calls parts m store t key h opening fits full = least_is_full m t (full_for_a_key parts m store t key h opening fits full)
+
+-- only there
+pub full_place : (parts : Parts) (m : Machine) (store : Store) (t : ℕ) (key : List ℕ) → HoldsChains parts m store → in_order m.opening ≡ true
+    → (store.tables t).header.slots < 2 ^ 32 → is_full m t ≡ true → IsFull (store.tables t) key
+unfolding is_full
+full_place parts m store t key h opening fits full =
+    let most = leb-true MOST_VARIATIONS (variations_of_table m t) full in
+    inl (variations_fill parts m store t h opening fits (omega (arith, most, at_most parts m store t h opening fits)))
+
+-- where there is one it isn't
+pub room_for_calls : (parts : Parts) (m : Machine) (store : Store) (t : ℕ) (key : List ℕ) → HoldsChains parts m store → in_order m.opening ≡ true
+    → (store.tables t).header.slots < 2 ^ 32 → (IsFull (store.tables t) key → ⊥) → is_full m t ≡ false
+room_for_calls parts m store t key h opening fits room =
+    false_from_ne_true (is_full m t) (λ full. room (full_place parts m store t key h opening fits full))

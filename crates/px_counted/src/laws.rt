@@ -1,4 +1,5 @@
 ghost use Rattle.std.specs.Prelude.{◌≡◌, ◌+◌, ◌-◌, ◌^◌, ◌<◌, ◌≤◌, ◌↔◌, ℕ, List, Contains, length, true};
+ghost use Rattle.px_calls.specs.Steps.{is_full};
 ghost use Rattle.px_chain.specs.Sound.{IsApart, IsSound, IsUsedRow, Layout};
 ghost use Rattle.px_chain.specs.Table.{Table};
 ghost use Rattle.px_free.specs.Places.{AreFull, rows_of, slots_of};
@@ -23,7 +24,7 @@ pub fn places_are_counted()
     ensures once { (table : Table) → IsApart (used_rows table) }
 {}
 
-/// A table whose slots' numbers fit has none left just where its chains have as many as a table may have variations. Each used row
+/// A table whose slots' numbers fit has none left just where its chains have as many as a table may have versions. Each used row
 /// has a chain of at least one, so row pointers run out only where slots have.
 pub fn row_pointers_last_as_long_as_slots()
     ensures full { (short : ℕ) (table : Table) (layout : Layout) → IsSound short table layout → table.header.slots < 2 ^ 32
@@ -34,8 +35,9 @@ pub fn row_pointers_last_as_long_as_slots()
         → AreFull (rows_of table.header) → AreFull (slots_of table.header) }
 {}
 
-/// A table's variations are the slots in its chains, whose numbers are those used less those on the free list. So the table is full
-/// of variations just where its header says that no slot is left, which is where no place is left for a key of it, new or not.
+/// A table's versions are the slots in its chains, whose numbers are those used less those on the free list. So the table is full
+/// of versions just where its header says that no slot is left, which is where no place is left for a key of it, new or not, and
+/// where a call that writes is told that it is full.
 pub fn variations_are_the_slots_in_chains()
     ensures in_chains { (parts : Parts) (m : Machine) (store : Store) (t : ℕ) → HoldsChains parts m store → in_order m.opening ≡ true
         → variations_of_table m t ≡ slots_in_chains (store.tables t) (store.layouts t) }
@@ -47,4 +49,6 @@ pub fn variations_are_the_slots_in_chains()
     ensures no_place { (parts : Parts) (m : Machine) (store : Store) (t : ℕ) (key : List ℕ) → HoldsChains parts m store → in_order m.opening ≡ true
         → (store.tables t).header.slots < 2 ^ 32
         → (IsFull (store.tables t) key ↔ (variations_of_table m t ≡ MOST_VARIATIONS)) }
+    ensures calls { (parts : Parts) (m : Machine) (store : Store) (t : ℕ) (key : List ℕ) → HoldsChains parts m store → in_order m.opening ≡ true
+        → (store.tables t).header.slots < 2 ^ 32 → (IsFull (store.tables t) key ↔ (is_full m t ≡ true)) }
 {}

@@ -73,7 +73,7 @@ pub fn tables_that_open_serve()
         (record { tables = tables_of opened; layouts = layouts; done = done; over = over }) }
 {}
 
-/// The newest version of a row whose transaction committed since the opening holds the machine's newest committed variation of
+/// The newest version of a row whose transaction committed since the opening holds the machine's newest committed version of
 /// the row's key: the one that tells whom a write would meet.
 pub fn the_newest_commit_stands_in_the_cells()
     ensures { (parts : Parts) (m : Machine) (all : Transactions) (store : Store) (t row : ℕ) → HoldsChains parts m store → Mirrors m all

@@ -1,4 +1,4 @@
--- The chain of variations of a key, and the counts over all chains.
+-- The chain of versions of a key, and the counts over all chains.
 use Rattle.std.specs.Prelude.{ℕ, ◌+◌, ◌-◌, Bool, true, false, ◌&&◌, nat_lt, ◌==◌, List, [], ◌∷◌, ◌++◌, map, length, take, drop, filter, flat_map, count_by, sum_by, Option, Some, None, if◌then◌else◌}
 use Rattle.std.specs.Option.{option_or}
 use Rattle.px_model.specs.declared.row.Row.{Row}
@@ -35,7 +35,7 @@ abbrev pub of_opening : Option Row → List Variation
 of_opening None = []
 of_opening (Some row) = record { xn = None; write = Put row } ∷ []
 
--- a variation of an ended transaction
+-- a version of an ended transaction
 abbrev pub of_ended : ℕ → Flat → Variation
 of_ended base f = record { xn = Some (base + f.number); write = f.write }
 
@@ -55,14 +55,14 @@ of_slot base (Some xact) = map (λ w. record { xn = Some (base + xact.number); w
 abbrev pub of_key : Key → List Variation → List Variation
 of_key key all = filter (λ v. same_key key (key_written v.write)) all
 
--- the variations of a key, the oldest first: the base, the unswept writes, those of the open transaction
+-- the versions of a key, the oldest first: the base, the unswept writes, those of the open transaction
 unfoldable pub chain : Machine → Key → List Variation
 chain m key =
     base_or m.base (row_at key m.opening) (last_committed key (take m.swept (flat m)))
     ++ of_key key (map (of_ended m.base) (drop m.swept (flat m)))
     ++ of_key key (flat_map (of_slot m.base) m.active)
 
--- the variations of all keys: a key has one of the base where it has a row there
+-- the versions of all keys: a key has one of the base where it has a row there
 unfoldable pub all_variations : Machine → List Write
 all_variations m = map Put (base_rows m) ++ unswept_writes m ++ open_writes m
 

@@ -2,7 +2,7 @@
 //!
 //! The types stand here with their copies; `specs/` has the machine. `Rows` says what writes leave of rows,
 //! `Machine` what a store's state is, what a transaction sees of it and how far the sweeper may go, and `Chains`
-//! which variations of a row are still needed and how they are counted. docs/MODEL.md explains them on one page.
+//! which versions of a row are still needed and how they are counted. docs/MODEL.md explains them on one page.
 #![tactic(auto)]
 
 mod bytes;

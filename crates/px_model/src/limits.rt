@@ -30,5 +30,5 @@ pub const MOST_BEGINS: u64 = 4_294_967_295;
 /// The stored numbers of transactions are below this one.
 pub const STORED_NUMBERS_END: u64 = 4_611_686_018_427_387_904;
 
-/// How many variations a table may have: its slots have numbers from 1 to this one.
+/// How many versions a table may have: its slots have numbers from 1 to this one.
 pub const MOST_VARIATIONS: u32 = 4_294_967_295;

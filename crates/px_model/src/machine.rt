@@ -37,7 +37,7 @@ pub struct Flat {
     pub write: Write,
 }
 
-/// A variation of a row, as a chain has it.
+/// A version of a row, as a chain has it.
 #[derive(Debug, Drop)]
 pub struct Variation {
     /// The stored number of its transaction; none for a row that was there at the opening.

@@ -1,4 +1,4 @@
--- What is counted over all variations is what is counted over the chains.
+-- What is counted over all versions is what is counted over the chains.
 use Rattle.std.proofs.Common.{◌≡◌, ℕ, ◌+◌, ◌≤◌, Bool, true, false, cond, List, [], ◌∷◌, map, length, refl, sym, ap, ◌∙◌, arith}
 use Rattle.std.specs.Prelude.{filter, sum_by, count_by}
 use Rattle.std.specs.Cmp.{eq_by_cmp_equiv}

@@ -1,4 +1,4 @@
--- The writes of a chain are those of its key among all variations.
+-- The writes of a chain are those of its key among all versions.
 use Rattle.std.proofs.Common.{◌≡◌, ℕ, Bool, true, false, cond, ◌&&◌, List, [], ◌∷◌, ◌++◌, map, Option, Some, None, refl, sym, ap, subst, ◌∙◌}
 use Rattle.std.specs.Prelude.{T, take, drop, filter, flat_map, option_to_list}
 use Rattle.std.specs.Ordering.{is_lt, is_eq}

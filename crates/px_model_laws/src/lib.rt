@@ -1,6 +1,6 @@
 //! What holds of the rows and the chains of every machine.
 //!
-//! The definitions of `px_model` keep rows as a list and count variations over three lists. These laws tie them to what
+//! The definitions of `px_model` keep rows as a list and count versions over three lists. These laws tie them to what
 //! they stand for: rows are a finite map, and what is counted is counted over the chains. Each function is a law; none
 //! of them does anything. `proofs/RowsAsMap` and `proofs/BaseRows` have the lemmas that other crates cite.
 #![tactic(auto)]
@@ -40,14 +40,14 @@ pub fn rows_in_order_are_their_answers()
     ensures { (a b : List Row) → in_order a ≡ true → in_order b ≡ true → ((key : Key) → row_at key a ≡ row_at key b) → a ≡ b }
 {}
 
-/// A chain's writes are those of its key among all variations, in their order.
+/// A chain's writes are those of its key among all versions, in their order.
 #[tactic(auto, using(crate::proofs::Laws::chains_are_cut))]
 pub fn a_chain_is_what_all_variations_have_of_its_key()
     ensures { (m : Machine) (key : Key) → in_order m.opening ≡ true
         → map (λ (v : Variation). v.write) (chain m key) ≡ filter (is_of key) (all_variations m) }
 {}
 
-/// The variations are the lengths of all chains together.
+/// The versions are the lengths of all chains together.
 #[tactic(auto, using(crate::proofs::Laws::chains_count_variations))]
 pub fn variations_are_the_lengths_of_all_chains()
     ensures { (m : Machine) (keys : List Key) → in_order m.opening ≡ true → AreKeysOf m keys

@@ -15,8 +15,10 @@ use Rattle.px_calls.specs.Steps.{reply_of, state_after}
 use Rattle.px_calls.specs.Texts.{reply_text}
 use Rattle.px_script.specs.Lines.{open_line}
 use Rattle.px_logged.proofs.Grown.{opening_stays, commits_rise, published_stays}
-use Rattle.px_standing.specs.Standing.{Files, StandsFor}
-use Rattle.px_standing.specs.Images.{IsPlainImage, acked, HasCommitted, HasBetween, StandsBetween}
+use Rattle.px_cell_standing.specs.Standing.{StandsFor}
+use Rattle.px_standing.specs.Standing.{Files}
+use Rattle.px_cell_standing.specs.Images.{HasBetween, HasCommitted, StandsBetween}
+use Rattle.px_standing.specs.Images.{IsPlainImage, acked}
 use Rattle.px_play.specs.Acknowledged.{acknowledged, HoldsAcknowledged, KeepsAcknowledged}
 use Rattle.px_play.specs.Turns.{Acknowledges, TellsReply}
 use Rattle.px_play.proofs.Parts.{open_behind}

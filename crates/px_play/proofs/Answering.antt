@@ -11,23 +11,24 @@ use Rattle.px_model.specs.declared.machine.Open.{Open}
 use Rattle.px_model.specs.declared.write.Write.{Write}
 use Rattle.px_model.specs.Machine.{Machine}
 use Rattle.px_calls.specs.declared.call.Call.{Call}
-use Rattle.px_calls.specs.declared.call.Call.TheVariants.{Insert, Update, Delete, Commit, Rollback}
+use Rattle.px_calls.specs.declared.call.Call.TheVariants.{Begin, Get, Hold, Fetch, Find, Scan, Insert, Update, Delete, Commit, Rollback}
 use Rattle.px_calls.specs.declared.reply.Reply.{Reply}
 use Rattle.px_calls.specs.declared.status.Status.{Status}
-use Rattle.px_calls.specs.declared.status.Status.TheVariants.{OutputFault, OutOfMemory, LogFull}
+use Rattle.px_calls.specs.declared.status.Status.TheVariants.{Damaged, OutputFault, OutOfMemory, LogFull}
 use Rattle.px_calls.specs.Steps.{open_of, is_refusal, reply_of, state_after}
 use Rattle.px_calls.specs.Texts.{reply_text}
 use Rattle.px_told.specs.declared.change.Change.{Change}
-use Rattle.px_xlog.specs.Log.{most_frames}
+use Rattle.px_log.specs.Log.{most_frames}
 use Rattle.px_logged.specs.Logged.{put_of, end_of, logged_when_done, logged}
-use Rattle.px_standing.specs.Images.{StandsBetween}
+use Rattle.px_cell_standing.specs.Images.{StandsBetween}
 use Rattle.px_standing.proofs.Standing.{last_moment}
 use Rattle.px_core.specs.declared.error.CoreError.{CoreError}
-use Rattle.px_core.specs.declared.error.CoreError.TheVariants.{OutOfMemory as CoreShort, Fault as FaultOf, LogFull as FullAt, Broken}
-use Rattle.px_core.specs.Core.{Kept, MayMeet, OnlyCommit, frames_of}
-use Rattle.px_core.specs.Errors.{status_of}
+use Rattle.px_core.specs.declared.error.CoreError.TheVariants.{OutOfMemory as CoreShort, Fault as FaultOf, LogFull as FullAt, Damaged as DamagedAt, Broken}
+use Rattle.px_core.specs.Core.{MayMeet, OnlyCommit, frames_of}
+use Rattle.px_core.specs.declared.state.Kept.{Kept}
+use Rattle.px_core.specs.Errors.{IsPassing, status_of}
 use Rattle.px_core.specs.Working.{Answers, AsBefore, FindsFull, Leaves, Refuses, StandsWithin, WorksFor}
-use Rattle.px_play.specs.Causes.{HasPlayCause}
+use Rattle.px_play.specs.Causes.{HasPlayCause, IsUndamaged}
 use Rattle.px_play.specs.Turns.{HasAnswerEnd, HasTellEnd, IsStill, TellsReply, WasMade, TurnsRight, KeepsWithin}
 use Rattle.px_play.proofs.Stays.{stands_whole}
 use Rattle.px_play.proofs.Acking.{call_moments, reply_moments}
@@ -162,6 +163,7 @@ refused_right session call m (FullAt n) told refuses full stands works =
       number = is.1;
       none_left = is.2;
     }
+refused_right session call m (DamagedAt file place) told refuses full stands works = told_still stands
 refused_right session call m (Broken SiteShort) told refuses full stands works = record { told = told_still stands; left = inl (still told refuses.leaves works) }
 refused_right session call m (Broken (SiteFault fault)) told refuses full stands works = told_still stands
 
@@ -174,6 +176,7 @@ pub refused_ends : {W : Type 0} {tells : Type 0} {state : W → State} {counts :
 refused_ends CoreShort refuses = tt
 refused_ends (FaultOf fault) refuses = tt
 refused_ends (FullAt n) refuses = tt
+refused_ends (DamagedAt file place) refuses = tt
 refused_ends (Broken SiteShort) refuses = tt
 refused_ends (Broken (SiteFault fault)) refuses = tt
 
@@ -181,9 +184,16 @@ no_tell : (call : Call) → MayMeet call Tell → ⊥
 no_tell Commit (inl is) = cc is
 no_tell Commit (inr is) = cc is
 no_tell Rollback is = cc is
-no_tell (Insert table key tag body) is = cc is
-no_tell (Update table key tag body) is = cc is
-no_tell (Delete table key) is = cc is
+no_tell (Insert table key tag body) (inl is) = cc is
+no_tell (Insert table key tag body) (inr is) = cc is
+no_tell (Update table key tag body) (inl is) = cc is
+no_tell (Update table key tag body) (inr is) = cc is
+no_tell (Delete table key) (inl is) = cc is
+no_tell (Delete table key) (inr is) = cc is
+no_tell (Get table key) is = cc is
+no_tell (Hold table key) is = cc is
+no_tell (Find table tag) is = cc is
+no_tell (Scan table) is = cc is
 no_tell _ none = absurd none
 
 pub refused_cause : {W : Type 0} {tells : Type 0} {state : W → State} {counts : W → Counts} {call : Call} {old new : Kept W} (error : CoreError) → old.error ≡ None → Refuses tells state counts call old new error
@@ -191,8 +201,17 @@ pub refused_cause : {W : Type 0} {tells : Type 0} {state : W → State} {counts 
 refused_cause CoreShort whole refuses = tt
 refused_cause {W} {tells} {state} {counts} {call} (FaultOf fault) whole refuses = (λ (is : fault ≡ Tell). no_tell call (subst (MayMeet call) is refuses.cause.0), refuses.cause.1)
 refused_cause (FullAt n) whole refuses = refuses.cause.1
+refused_cause (DamagedAt file place) whole refuses = tt
 refused_cause (Broken SiteShort) whole refuses = tt
 refused_cause {W} {tells} {state} {counts} {call} {old} (Broken (SiteFault fault)) whole refuses = absurd (no_error old.error (SiteFault fault) whole refuses.cause)
+
+pub refused_sound : (error : CoreError) → IsPassing error → IsUndamaged (status_of error)
+refused_sound CoreShort passing = tt
+refused_sound (FaultOf fault) passing = tt
+refused_sound (FullAt n) passing = tt
+refused_sound (DamagedAt file place) passing = passing
+refused_sound (Broken SiteShort) passing = tt
+refused_sound (Broken (SiteFault fault)) passing = tt
 
 pub rose_on : (before mid after : ℕ) → before ≤ mid → Rose mid after → Rose before after
 rose_on before mid after rises rose = omega (arith, rises, rose)
@@ -202,6 +221,11 @@ tell_ends mid new (Ok done) ends = tt
 tell_ends mid new (Err OutputFault) ends = tt
 tell_ends mid new (Err OutOfMemory) ends = tt
 tell_ends mid new (Err _) ends = absurd ends
+
+pub tell_sound : (mid new : Counts) (result : Result (Unit {0}) Status) → IfErr result (HasTellEnd mid new) → IfErr result IsUndamaged
+tell_sound mid new (Ok done) ends = tt
+tell_sound mid new (Err (Damaged file place)) ends = ends
+tell_sound mid new (Err _) ends = tt
 
 pub tell_cause : (old mid new : Counts) (result : Result (Unit {0}) Status) → NoneFell old mid → IfErr result (HasTellEnd mid new) → IfErr result (HasPlayCause old new 0 0)
 tell_cause old mid new (Ok done) fell ends = tt

@@ -389,6 +389,7 @@ line_asked {input} {old} {new} {left} {left_now} {lines} read looks cause moves 
     record {
       command = λ c is. (handed_call h c is, handed_on h c is);
       bad = λ none. record { taken = taken; in_order = r.in_order; within = r.within; fits = r.bad none; read_before = r.read_before; counts = refl; little = r.little };
+      damage = λ file place. record { taken = taken; in_order = r.in_order; within = r.within; fits = tt; read_before = r.read_before; counts = tt; little = r.little };
       disk = λ fault. record { taken = taken; in_order = r.in_order; within = r.within; fits = tt; read_before = r.read_before; counts = tt; little = r.little };
       output = record { taken = taken; in_order = r.in_order; within = r.within; fits = tt; read_before = r.read_before; counts = tt; little = r.little };
       memory = record { taken = taken; in_order = r.in_order; within = r.within; fits = tt; read_before = r.read_before; counts = tt; little = r.little };
@@ -418,6 +419,11 @@ few_lines {input} {progress} {left} {lines} read =
     omega (arith, read.long, read.within, read.counted, ap length read.in_order, length-append read.handed (ahead progress left), length-append progress.held left)
 
 -- nor more lines than the script has calls
+-- there are no more lines than bytes that may be read
+pub lines_below : {input : List ℕ} {progress : Progress} {left : List ℕ} {lines : ℕ} → IsRead input progress left lines → lines ≤ longest_input
+lines_below {input} {progress} {left} read =
+    omega (arith, read.long, ap length read.in_order, length-append read.handed (ahead progress left), length-append progress.held left, read.counted, read.within)
+
 pub few_calls : {input : List ℕ} {progress : Progress} {left : List ℕ} {lines : ℕ} → IsRead input progress left lines → lines ≤ length (script_of input)
 unfolding script_of
 few_calls {input} {progress} {left} {lines} read = by_cut read.cut

@@ -11,19 +11,20 @@ use Rattle.px_model.specs.Machine.{Machine}
 use Rattle.px_calls.specs.declared.call.Call.{Call}
 use Rattle.px_calls.specs.declared.call.Call.TheVariants.{Commit}
 use Rattle.px_calls.specs.declared.status.Status.{Status}
-use Rattle.px_calls.specs.declared.status.Status.TheVariants.{Done, BadLine, DiskFault, SourceFault, OutputFault, OutOfMemory, LogFull, TooLong}
+use Rattle.px_calls.specs.declared.status.Status.TheVariants.{Done, BadLine, Damaged, DiskFault, SourceFault, OutputFault, OutOfMemory, LogFull, TooLong}
 use Rattle.px_calls.specs.Histories.{state_after_all}
 use Rattle.px_calls.specs.Steps.{reply_of}
 use Rattle.px_calls.specs.Texts.{reply_text}
 use Rattle.px_told.specs.declared.change.Change.{Change}
 use Rattle.px_script.specs.Grammar.{command_line}
 use Rattle.px_script.specs.Progress.{Progress}
-use Rattle.px_xlog.specs.Log.{most_frames}
+use Rattle.px_log.specs.Log.{most_frames}
 use Rattle.px_logged.specs.Logged.{logged, logged_by_all}
-use Rattle.px_core.specs.Core.{Kept, frames_of}
+use Rattle.px_core.specs.Core.{frames_of}
+use Rattle.px_core.specs.declared.state.Kept.{Kept}
 use Rattle.px_core.specs.Working.{WorksFor}
 use Rattle.px_play.specs.Acknowledged.{KeepsAcknowledged}
-use Rattle.px_play.specs.Causes.{HasPlayCause, faults_by}
+use Rattle.px_play.specs.Causes.{HasPlayCause, IsUndamaged, faults_by}
 use Rattle.px_play.specs.Input.{EndsInput, script_of}
 use Rattle.px_play.specs.Told.{joined}
 use Rattle.px_play.specs.Playing.{AreNumbered, HoldsAll, IsSpared, PlaysRight, StopsFull, frames_after, pieces_of}
@@ -167,11 +168,11 @@ reading_ends {W} {state} counts {m} {old} {new} {input} {left} {answered} faults
 
 -- an end at a line
 pub turn_ends : {W : Type 0} {m : Machine} {old mid new : Kept W} {input left : List ℕ} {progress : Progress} {answered : ℕ} (state : W → State) (counts : W → Counts) (status : Status)
-    → HasTurnEnd progress.line (answered + 1) status → IsAsked input progress left answered → answered ≤ length (script_of input) → HasPlayed state m (script_of input) old mid answered → NoneFell (counts old.site) (counts mid.site)
+    → HasTurnEnd progress.line (answered + 1) status → IsUndamaged status → IsAsked input progress left answered → answered ≤ length (script_of input) → HasPlayed state m (script_of input) old mid answered → NoneFell (counts old.site) (counts mid.site)
     → (command_line progress.line ≡ None → new ≡ mid)
     → ((c : ℕ × Call) → command_line progress.line ≡ Some c → TurnsRight state counts (state_after_all m (take answered (script_of input))) c mid new (Err status))
     → PlaysRight state counts m old new input left status
-turn_ends {W} {m} {old} {mid} {new} {input} {left} {progress} {answered} state counts status cause asked few played fell unplayed plays = by_status status cause plays
+turn_ends {W} {m} {old} {mid} {new} {input} {left} {progress} {answered} state counts status cause sound asked few played fell unplayed plays = by_status status cause sound plays
   where
     script : List (ℕ × Call)
     script = script_of input
@@ -222,15 +223,16 @@ turn_ends {W} {m} {old} {mid} {new} {input} {left} {progress} {answered} state c
       none_left = found.none_left;
     }
 
-    by_status : (status : Status) → HasTurnEnd progress.line (answered + 1) status → Plays status → PlaysRight state counts m old new input left status
-    by_status (BadLine k) cause plays =
+    by_status : (status : Status) → HasTurnEnd progress.line (answered + 1) status → IsUndamaged status → Plays status → PlaysRight state counts m old new input left status
+    by_status (BadLine k) cause sound plays =
         let same : new ≡ mid = unplayed cause.0 in
         reading_ends counts 0 0 (BadLine k) tt (record {
           may = subst (λ (number : ℕ). MayEnd input left answered (BadLine number)) (sym cause.1) (asked.bad cause.0);
           few = few;
           played = subst (λ (core : Kept W). HasPlayed state m script old core answered) (sym same) played;
         })
-    by_status (DiskFault fault) cause plays =
+    by_status (Damaged file place) cause sound plays = absurd sound
+    by_status (DiskFault fault) cause sound plays =
         let may = asked.disk fault in
         record {
           taken = may.taken;
@@ -244,7 +246,7 @@ turn_ends {W} {m} {old} {mid} {new} {input} {left} {progress} {answered} state c
           spared = tt;
           numbered = played.made.numbered;
         }
-    by_status OutputFault cause plays =
+    by_status OutputFault cause sound plays =
         let may = asked.output in
         let part = plays cause.0 cause.1 in
         let made = made_more cause.0 played.made (asked.command cause.0 cause.1).0 part.1.made in
@@ -260,7 +262,7 @@ turn_ends {W} {m} {old} {mid} {new} {input} {left} {progress} {answered} state c
           spared = tt;
           numbered = made.numbered;
         }
-    by_status (LogFull n) cause plays =
+    by_status (LogFull n) cause sound plays =
         let may = asked.full n in
         let found = plays cause.0 cause.1 in
         record {
@@ -275,7 +277,7 @@ turn_ends {W} {m} {old} {mid} {new} {input} {left} {progress} {answered} state c
           spared = tt;
           numbered = played.made.numbered;
         }
-    by_status OutOfMemory cause plays =
+    by_status OutOfMemory cause sound plays =
         let may = asked.memory in
         record {
           taken = may.taken;
@@ -289,10 +291,11 @@ turn_ends {W} {m} {old} {mid} {new} {input} {left} {progress} {answered} state c
           spared = spared (command_line progress.line) refl plays;
           numbered = played.made.numbered;
         }
-    by_status _ cause plays = absurd cause
+    by_status _ cause sound plays = absurd cause
 
 pub turn_input : {input left : List ℕ} {progress : Progress} {answered : ℕ} (status : Status) → HasTurnEnd progress.line (answered + 1) status → IsAsked input progress left answered → MayEnd input left answered status
 turn_input {input} {left} {progress} {answered} (BadLine k) cause asked = subst (λ (number : ℕ). MayEnd input left answered (BadLine number)) (sym cause.1) (asked.bad cause.0)
+turn_input (Damaged file place) cause asked = asked.damage file place
 turn_input (DiskFault fault) cause asked = asked.disk fault
 turn_input OutputFault cause asked = asked.output
 turn_input (LogFull n) cause asked = asked.full n
@@ -345,6 +348,7 @@ keeps_end {W} {m} {script} {told} {before} {mid} {new} {answered} state line at 
 pub turn_cause : (old mid new : Counts) (reads reads_now : ℕ) (status : Status) → NoneFell old mid → HasPlayCause mid new 0 0 status → HasPlayCause old new reads reads_now status
 turn_cause old mid new reads reads_now Done fell cause = tt
 turn_cause old mid new reads reads_now (BadLine k) fell cause = tt
+turn_cause old mid new reads reads_now (Damaged file place) fell cause = tt
 turn_cause old mid new reads reads_now (DiskFault fault) fell cause = (cause.0, rose_on (old.faults fault) (mid.faults fault) (new.faults fault) (fell.faults fault) cause.1)
 turn_cause old mid new reads reads_now SourceFault fell cause = absurd (omega (arith, cause))
 turn_cause old mid new reads reads_now OutputFault fell cause = rose_on old.tell_faults mid.tell_faults new.tell_faults fell.tell_faults cause
@@ -356,6 +360,7 @@ turn_cause old mid new reads reads_now _ fell cause = absurd cause
 -- no read failed where a run ends at a line
 pub turn_faults : (line : List ℕ) (number : ℕ) (status : Status) → HasTurnEnd line number status → (faults now : ℕ) → now ≡ faults → now ≡ faults_by status faults
 turn_faults line number (BadLine k) cause faults now same = same
+turn_faults line number (Damaged file place) cause faults now same = same
 turn_faults line number (DiskFault fault) cause faults now same = same
 turn_faults line number OutputFault cause faults now same = same
 turn_faults line number (LogFull n) cause faults now same = same
@@ -370,7 +375,15 @@ reading_cause old new reads mid reads_now OutOfMemory rises cause = tt
 reading_cause old new reads mid reads_now TooLong rises cause = tt
 reading_cause old new reads mid reads_now _ rises cause = absurd cause
 
+pub reading_sound : (faults faults_now : ℕ) (status : Status) → HasReadEnd faults faults_now status → IsUndamaged status
+reading_sound faults faults_now (Damaged file place) cause = absurd cause
+reading_sound faults faults_now _ cause = tt
+
 -- ---- a line that asks for no call
+
+pub command_sound : (line : List ℕ) (number : ℕ) (status : Status) → ReadsCommand line number (Err status) → IsUndamaged status
+command_sound line number (Damaged file place) none = absurd none
+command_sound line number _ none = tt
 
 pub command_ends : (line : List ℕ) (number : ℕ) (status : Status) → ReadsCommand line number (Err status) → HasTurnEnd line number status
 command_ends line number (BadLine k) none = none
@@ -391,6 +404,7 @@ command_right state counts m c core line number _ works none = absurd none
 -- and one that asks for this one
 pub answer_ends : (line : List ℕ) (number : ℕ) (c : ℕ × Call) → command_line line ≡ Some c → (result : Result (Unit {0}) Status) → IfErr result HasAnswerEnd → IfErr result (HasTurnEnd line number)
 answer_ends line number c is (Ok done) ends = tt
+answer_ends line number c is (Err (Damaged file place)) ends = (c, is)
 answer_ends line number c is (Err (DiskFault fault)) ends = (c, is)
 answer_ends line number c is (Err OutputFault) ends = (c, is)
 answer_ends line number c is (Err (LogFull n)) ends = (c, is)

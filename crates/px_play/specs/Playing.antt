@@ -12,9 +12,10 @@ use Rattle.px_calls.specs.Steps.{reply_of, state_after}
 use Rattle.px_calls.specs.Histories.{state_after_all}
 use Rattle.px_calls.specs.Texts.{reply_text}
 use Rattle.px_script.specs.Lines.{complete_lines, lines_at_end}
-use Rattle.px_xlog.specs.Log.{most_frames}
+use Rattle.px_log.specs.Log.{most_frames}
 use Rattle.px_logged.specs.Logged.{logged, logged_by_all}
-use Rattle.px_core.specs.Core.{Kept, frames_of}
+use Rattle.px_core.specs.Core.{frames_of}
+use Rattle.px_core.specs.declared.state.Kept.{Kept}
 use Rattle.px_core.specs.Working.{WorksFor}
 use Rattle.px_play.specs.Input.{TakesLittle, script_of}
 use Rattle.px_play.specs.Told.{IsTold}

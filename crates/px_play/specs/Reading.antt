@@ -1,10 +1,11 @@
 -- How far a script was read, and what may come next.
 use Rattle.std.specs.Prelude.{◌≡◌, ◌⊎◌, ⊤, ℕ, ◌+◌, ◌<◌, ◌≤◌, true, List, [], ◌++◌, length, Some, None, slice_get}
 use Rattle.px_site.specs.declared.error.Fault.{Fault}
+use Rattle.px_site.specs.declared.name.FileName.{FileName}
 use Rattle.px_source.specs.Source.{Rose}
 use Rattle.px_calls.specs.declared.call.Call.{Call}
 use Rattle.px_calls.specs.declared.status.Status.{Status}
-use Rattle.px_calls.specs.declared.status.Status.TheVariants.{Done, BadLine, SourceFault, OutOfMemory, TooLong, DiskFault, OutputFault, LogFull}
+use Rattle.px_calls.specs.declared.status.Status.TheVariants.{Done, BadLine, SourceFault, OutOfMemory, TooLong, Damaged, DiskFault, OutputFault, LogFull}
 use Rattle.px_script.specs.Grammar.{command_line}
 use Rattle.px_script.specs.Lines.{complete_lines, open_line, lines_at_end}
 use Rattle.px_script.specs.Progress.{Progress, ahead, longest_input, longest_piece}
@@ -51,6 +52,7 @@ pub record MayEnd (input left : List ℕ) (lines : ℕ) (status : Status) : Type
 pub record IsAsked (input : List ℕ) (progress : Progress) (left : List ℕ) (lines : ℕ) : Type 0 where
   pub command : (c : ℕ × Call) → command_line progress.line ≡ Some c → (slice_get (script_of input) lines ≡ Some c) × IsRead input progress left (lines + 1)
   pub bad : command_line progress.line ≡ None → MayEnd input left lines (BadLine (lines + 1))
+  pub damage : (file : FileName) (place : ℕ) → MayEnd input left lines (Damaged file place)
   pub disk : (fault : Fault) → MayEnd input left lines (DiskFault fault)
   pub output : MayEnd input left lines OutputFault
   pub memory : MayEnd input left lines OutOfMemory

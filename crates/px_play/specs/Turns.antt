@@ -7,14 +7,15 @@ use Rattle.px_calls.specs.declared.call.Call.{Call}
 use Rattle.px_calls.specs.declared.call.Call.TheVariants.{Commit}
 use Rattle.px_calls.specs.declared.reply.Reply.{Reply}
 use Rattle.px_calls.specs.declared.status.Status.{Status}
-use Rattle.px_calls.specs.declared.status.Status.TheVariants.{BadLine, DiskFault, OutputFault, OutOfMemory, LogFull}
+use Rattle.px_calls.specs.declared.status.Status.TheVariants.{BadLine, Damaged, DiskFault, OutputFault, OutOfMemory, LogFull}
 use Rattle.px_calls.specs.Steps.{reply_of, state_after}
 use Rattle.px_calls.specs.Histories.{state_after_all}
 use Rattle.px_calls.specs.Texts.{reply_text}
 use Rattle.px_script.specs.Grammar.{command_line}
-use Rattle.px_xlog.specs.Log.{most_frames}
+use Rattle.px_log.specs.Log.{most_frames}
 use Rattle.px_logged.specs.Logged.{logged}
-use Rattle.px_core.specs.Core.{Kept, frames_of}
+use Rattle.px_core.specs.Core.{frames_of}
+use Rattle.px_core.specs.declared.state.Kept.{Kept}
 use Rattle.px_core.specs.Working.{WorksFor}
 use Rattle.px_play.specs.Acknowledged.{TellsWhole, acknowledged, KeepsAcknowledged}
 
@@ -39,6 +40,7 @@ TellsReply reply old new (Err _) = new ≡ old
 
 -- the statuses by which a call or its reply ends a run
 abbrev pub HasAnswerEnd : Status → Type 0
+HasAnswerEnd (Damaged file place) = ⊤
 HasAnswerEnd (DiskFault fault) = ⊤
 HasAnswerEnd OutputFault = ⊤
 HasAnswerEnd (LogFull n) = ⊤
@@ -48,6 +50,7 @@ HasAnswerEnd _ = ⊥
 -- a line's command, where a run ends at it with this status
 abbrev pub HasTurnEnd : (line : List ℕ) (number : ℕ) → Status → Type 0
 HasTurnEnd line number (BadLine k) = (command_line line ≡ None) × (k ≡ number)
+HasTurnEnd line number (Damaged file place) = (c : ℕ × Call) × (command_line line ≡ Some c)
 HasTurnEnd line number (DiskFault fault) = (c : ℕ × Call) × (command_line line ≡ Some c)
 HasTurnEnd line number OutputFault = (c : ℕ × Call) × (command_line line ≡ Some c)
 HasTurnEnd line number (LogFull n) = (c : ℕ × Call) × (command_line line ≡ Some c)

@@ -5,7 +5,7 @@ ghost use Rattle.px_model.specs.Machine.{Machine, commits};
 ghost use Rattle.px_calls.specs.Histories.{state_after_all};
 ghost use Rattle.px_core.specs.Working.{WorksFor};
 ghost use Rattle.px_play.specs.Acknowledged.{KeepsAcknowledged, TellsWhole, acknowledged};
-ghost use Rattle.px_play.specs.Causes.{HasPlayCause, faults_by};
+ghost use Rattle.px_play.specs.Causes.{HasPlayCause, IsUndamaged, faults_by};
 ghost use Rattle.px_play.specs.Input.{EndsInput, script_of};
 ghost use Rattle.px_play.specs.Playing.{PlaysRight};
 
@@ -29,12 +29,14 @@ use std::alloc::Global;
 /// - `OutputFault`: a reply couldn't be told; a front of it may be.
 /// - `LogFull`: a call had a frame to write for which the log has no number left.
 /// - `OutOfMemory`: a call, a line or a reply's text wanted memory.
+/// - `Damaged`: a call met a cell that no store may have there. Never on a site that tells: the opening has looked at them all.
 ///
 /// No other status comes. After `DiskFault` the core may be broken, and after `OutOfMemory` where the site wanted memory
 /// within a commit. Else it works on: at `OutputFault` the last call was made, and its reply told in part.
 pub fn play<W: Site, S: Source>(alloc: Global, core: &mut Core<W>, source: &mut S) -> Status
     requires whole { core.old.error ≡ None }
     ensures cause { HasPlayCause (W.counts core.old.site) (W.counts core.new.site) (S.faults source.old) (S.faults source.new) result }
+    ensures sound { W.tells → IsUndamaged result }
     ensures none_fell { NoneFell (W.counts core.old.site) (W.counts core.new.site) }
     ensures source_none_fell { S.faults source.old ≤ S.faults source.new }
     ensures source_faults { S.faults source.new ≡ faults_by result (S.faults source.old) }

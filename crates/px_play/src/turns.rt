@@ -5,7 +5,7 @@ ghost use Rattle.px_model.specs.Machine.{Machine};
 ghost use Rattle.px_calls.specs.declared.call.Call.{Call};
 ghost use Rattle.px_script.specs.Grammar.{command_line};
 ghost use Rattle.px_core.specs.Working.{WorksFor};
-ghost use Rattle.px_play.specs.Causes.{HasPlayCause};
+ghost use Rattle.px_play.specs.Causes.{HasPlayCause, IsUndamaged};
 ghost use Rattle.px_play.specs.Turns.{HasAnswerEnd, HasTellEnd, HasTurnEnd, KeepsWithin, TellsReply, TurnsRight};
 
 use crate::commands::command;
@@ -22,6 +22,7 @@ use std::alloc::Global;
 /// - `BadLine`: the line is no command; then nothing is done.
 /// - `DiskFault`, `LogFull`, `OutOfMemory`: the core gave up, or the reply's text or the line's call wanted memory.
 /// - `OutputFault`: the reply was made, and a front of it told.
+/// - `Damaged`: the call met a cell that no store may have. Never on a site that tells.
 pub(crate) fn turn<W: Site>(
     alloc: Global,
     core: &mut Core<W>,
@@ -32,6 +33,7 @@ pub(crate) fn turn<W: Site>(
     requires { core.old.error ≡ None }
     ensures done { OnOk result ((c : ℕ × Call) × (command_line line.now ≡ Some c)) }
     ensures ends { IfErr result (HasTurnEnd line.now number) }
+    ensures sound { W.tells → IfErr result IsUndamaged }
     ensures cause { IfErr result (HasPlayCause (W.counts core.old.site) (W.counts core.new.site) 0 0) }
     ensures whole { OnOk result (core.new.error ≡ None) }
     ensures none_fell { NoneFell (W.counts core.old.site) (W.counts core.new.site) }
@@ -54,6 +56,7 @@ fn answer<W: Site>(
 ) -> Result<(), Status>
     requires { core.old.error ≡ None }
     ensures ends { IfErr result HasAnswerEnd }
+    ensures sound { W.tells → IfErr result IsUndamaged }
     ensures cause { IfErr result (HasPlayCause (W.counts core.old.site) (W.counts core.new.site) 0 0) }
     ensures whole { OnOk result (core.new.error ≡ None) }
     ensures none_fell { NoneFell (W.counts core.old.site) (W.counts core.new.site) }

@@ -3,20 +3,26 @@ use Rattle.std.proofs.Common.{◌≡◌, ℕ, List, sym, ap, subst, ◌∙◌}
 use Rattle.px_model.specs.declared.row.Row.{Row}
 use Rattle.px_restart.specs.Restart.{IsPicked}
 use Rattle.px_restart.specs.declared.restart.Restart.{Restart}
-use Rattle.px_site.proofs.Moments.{weaker_moments}
 use Rattle.px_site.specs.State.{EachMoment, Moment, State}
 use Rattle.px_standing.specs.Standing.{Files, first_restart, second_restart}
 use Rattle.px_standing.specs.Stored.{RestartsRest}
-use Rattle.px_cell_opening.specs.Settled as opening
+use Rattle.px_xlog.specs.Contents.{the_log}
+use Rattle.px_cell_opening.specs.Opened.{MayOpen, OpensAs}
+use Rattle.px_cell_opening.specs.declared.opening.Cells.{Cells}
+use Rattle.px_cell_standing.specs.Found.{Found, IsFound, IsFoundOn}
 use Rattle.px_cell_standing.specs.Images.{KeepsStanding}
-use Rattle.px_cell_standing.specs.Settled.{Settled}
+use Rattle.px_cell_standing.specs.Settled.{IsAlone, Settled}
 use Rattle.px_recovery.proofs.Quiet.{standing_from, standing_then}
 
 -- ---- what is used of the law below
 
-abbrev pub MayOpen : Type 0
-MayOpen = (s : State) (commits : ℕ) (rows : List Row) (restart : Restart) → Settled s commits rows → RestartsRest s.now s.content
-    → IsPicked (first_restart s.content) (second_restart s.content) restart → opening.Settled restart commits rows s
+abbrev pub SettledMayOpen : Type 0
+SettledMayOpen = (s : State) (commits : ℕ) (rows : List Row) (restart : Restart) → Settled s commits rows → RestartsRest s.now s.content
+    → IsPicked (first_restart s.content) (second_restart s.content) restart → MayOpen restart commits rows s
+
+abbrev pub FoundMayOpen : Type 0
+FoundMayOpen = (s : State) (found : Found) (restart : Restart) → IsFoundOn found s → RestartsRest s.now s.content
+    → IsPicked (first_restart s.content) (second_restart s.content) restart → MayOpen restart found.commits found.rows s
 
 -- the restart that counts was read, and the restart files are synced
 pub record IsBegun (restart : Restart) (a b c : State) : Type 0 where
@@ -32,20 +38,36 @@ module _ (restart : Restart) (a b c : State) (begun : IsBegun restart a b c) whe
   picked_there : IsPicked (first_restart c.content) (second_restart c.content) restart
   picked_there = subst (λ (files : Files). IsPicked (first_restart files) (second_restart files) restart) (sym content_is) begun.picked
 
+  -- ---- a settled site
+
   settled_read : (commits : ℕ) (rows : List Row) → Settled a commits rows → Settled b commits rows
   settled_read commits rows settled = subst (λ (s : State). Settled s commits rows) (sym begun.same) settled
 
-  pub may_go_on : MayOpen → (commits : ℕ) (rows : List Row) → (Settled b commits rows → Settled c commits rows) → Settled a commits rows → opening.Settled restart commits rows c
-  may_go_on may commits rows settles settled = may c commits rows restart (settles (settled_read commits rows settled)) begun.rests picked_there
+  pub begun_stands : (commits : ℕ) (rows : List Row) → (Settled b commits rows → EachMoment (KeepsStanding commits rows b.now) b c)
+      → Settled a commits rows → EachMoment (KeepsStanding commits rows a.now) a c
+  begun_stands commits rows one settled = standing_from begun.same (one (settled_read commits rows settled))
 
-  pub opening_stands : MayOpen → (d : State) (commits : ℕ) (rows : List Row)
+  pub opening_stands : SettledMayOpen → (d : State) (commits : ℕ) (rows : List Row)
       → (Settled b commits rows → EachMoment (KeepsStanding commits rows b.now) b c) → (Settled b commits rows → Settled c commits rows)
-      → (opening.Settled restart commits rows c → EachMoment (opening.KeepsStanding commits rows c.now) c d) → Settled a commits rows → EachMoment (KeepsStanding commits rows a.now) a d
+      → (MayOpen restart commits rows c → Settled c commits rows → EachMoment (KeepsStanding commits rows c.now) c d)
+      → Settled a commits rows → EachMoment (KeepsStanding commits rows a.now) a d
   opening_stands may d commits rows one settles two settled =
-      standing_from begun.same
-      (standing_then (one (settled_read commits rows settled))
-      (weaker_moments (λ (m : Moment) keeps. record { images = record { each = keeps.images }; told = keeps.told; telling = keeps.telling })
-      (two (may_go_on may commits rows settles settled))))
+      let there : Settled c commits rows = settles (settled_read commits rows settled) in
+      standing_from begun.same (standing_then (one (settled_read commits rows settled)) (two (may c commits rows restart there begun.rests picked_there) there))
+
+  -- ---- a site on which something is found
+
+  pub found_may_open : FoundMayOpen → (IsAlone b → IsAlone c) → (found : Found) → IsFoundOn found a → MayOpen restart found.commits found.rows c
+  found_may_open may alone found on =
+      may c found restart
+      (record {
+        is_found = subst (IsFound found) (sym content_is) on.is_found;
+        alone = alone (subst IsAlone (sym begun.same) on.alone);
+      })
+      begun.rests picked_there
+
+  pub opens_first : (cells : Cells) (d : State) → OpensAs restart (c.content the_log) cells d → OpensAs restart (a.content the_log) cells d
+  opens_first cells d opens = subst (λ (files : Files). OpensAs restart (files the_log) cells d) content_is opens
 
 -- ---- then only reads follow
 

@@ -1,4 +1,5 @@
 pub mod Alike
+pub mod Beginning
 pub mod Begun
 pub mod Contents
 pub mod Counted
@@ -12,4 +13,6 @@ pub mod Quiet
 pub mod Refusals
 pub mod Rows
 pub mod Settling
+pub mod Sound
+pub mod Still
 pub mod Syncing

@@ -106,6 +106,14 @@ IsPassing NoStore = ⊥
 IsPassing (LogFull frame) = ⊤
 IsPassing (Damaged file place) = ⊥
 
+-- it says nothing of the files at all
+abbrev pub SaysNothing : OpenError → Type 0
+SaysNothing OpenShort = ⊤
+SaysNothing (OpenFault fault) = ⊤
+SaysNothing NoStore = ⊥
+SaysNothing (LogFull frame) = ⊥
+SaysNothing (Damaged file place) = ⊥
+
 -- where no store is: that is said, or memory was wanted, or a restart file couldn't be read
 abbrev pub IsAbsence : OpenError → Type 0
 IsAbsence OpenShort = ⊤

@@ -1,6 +1,6 @@
 -- What opening a store finds, and what it leaves of the site at each moment.
 use Rattle.std.specs.Prelude.{◌≡◌, ℕ, ◌-◌, List, [], length, None, Result, Ok, Err}
-use Rattle.std.alloc.Global.{Global}
+use Rattle.std.specs.declared.alloc.Global.{Global}
 use Rattle.px_active.specs.declared.active.Active.{Active}
 use Rattle.px_change.specs.declared.change.Change.{Change}
 use Rattle.px_core.specs.Core.{frames_of}

@@ -7,7 +7,7 @@ ghost use Rattle.px_cell_standing.specs.Found.{Found, IsFoundOn};
 ghost use Rattle.px_cell_standing.specs.Images.{KeepsStanding};
 ghost use Rattle.px_cell_standing.specs.Settled.{Settled};
 ghost use Rattle.px_standing.specs.Standing.{HasNoRestart};
-ghost use Rattle.px_recovery.specs.Errors.{CountsFault, FindsNoRoom, HasRefusal, IsAbsence, IsPassing, KeepsContent};
+ghost use Rattle.px_recovery.specs.Errors.{CountsFault, FindsNoRoom, HasRefusal, IsAbsence, IsPassing, KeepsContent, SaysNothing};
 ghost use Rattle.px_recovery.specs.Opening.{BeginsWith, OpensAs, OpensTo, TellsNothing, core_of, site_after};
 ghost use Rattle.px_active.specs.Active.{IsActiveOf};
 ghost use Rattle.px_cell_opening.specs.Opened.{WorksFrom};
@@ -25,6 +25,10 @@ ghost use Rattle.px_xacts.specs.Transactions as transactions;
 
 use crate::OpenError;
 use crate::counting::count_rows;
+use crate::laws::{
+    a_settled_site_may_be_opened, a_store_that_works_has_its_rows, what_is_found_has_room,
+    what_is_found_is_not_refused, what_was_opened_was_found,
+};
 use crate::restarts::{read_restart, sync_restarts};
 use px_active::Active;
 use px_cell_opening::{Cells, open_cells};
@@ -89,6 +93,8 @@ pub fn open_store<W: Site>(alloc: Global, site: W) -> Result<Opened<W>, NotOpene
     ensures fault { IfErr result (λ refused. CountsFault (W.counts site) (W.counts refused.site) refused.error) }
     ensures none_fell { NoneFell (W.counts site) (W.counts (site_after result)) }
 {
+    what_is_found_has_room();
+    what_is_found_is_not_refused();
     let mut site = site;
     match open_parts(alloc, &mut site) {
         Ok(parts) => Ok(parts.over(alloc, site)),
@@ -143,12 +149,15 @@ fn open_parts<W: Site>(alloc: Global, site: &mut W) -> Result<Parts, OpenError>
     ensures fault { IfErr result (CountsFault (W.counts site.old) (W.counts site.new)) }
     ensures none_fell { NoneFell (W.counts site.old) (W.counts site.new) }
 {
+    a_settled_site_may_be_opened();
+    what_was_opened_was_found();
     let Some(restart) = read_restart(site)? else {
         return Err(OpenError::NoStore);
     };
     sync_restarts(site)?;
     let cells = open_cells(alloc, site, &restart)?;
-    parts_of(alloc, site, &restart, cells)
+    let parts = parts_of(alloc, site, &restart, cells)?;
+    Ok(parts)
 }
 
 // What the sessions have of a store that was just opened: nothing. Its rows are counted.
@@ -167,16 +176,18 @@ fn parts_of<W: Site>(
         → IfOk result (λ parts. parts.report.rows ≡ length rows) }
     ensures works { W.tells → (commits : ℕ) (rows : List Row) → WorksFrom restart.now commits rows (W.state site.old) cells
         → IfOk result (λ parts. WorksFrom restart.now commits rows (W.state site.new) (record cells { held = parts.held; log = parts.log })) }
-    ensures active { IfOk result (λ parts. (m : Machine) → m ≡ fresh m.tables m.short m.opening cells.commits cells.base → IsActiveOf m parts.active) }
+    ensures active { (tables short : ℕ) (opening : List Row)
+        → IfOk result (λ parts. IsActiveOf (fresh tables short opening cells.commits cells.base) parts.active) }
     ensures fresh { IfOk result (λ parts. parts.active.xacts ≡ transactions.fresh cells.base) }
     ensures log { IfOk result (λ parts. parts.log ≡ cells.log) }
     ensures store { IfOk result (λ parts. (store : Store) × HasStore store (opening (W.state site.new) parts.held parts.log)) }
     ensures few { IfOk result (λ parts. parts.active.commits ≤ parts.log.frames) }
     ensures same { W.tells → W.state site.new ≡ W.state site.old }
-    ensures sound { W.tells → IfErr result IsPassing }
+    ensures sound { W.tells → IfErr result SaysNothing }
     ensures fault { IfErr result (CountsFault (W.counts site.old) (W.counts site.new)) }
     ensures none_fell { NoneFell (W.counts site.old) (W.counts site.new) }
 {
+    a_store_that_works_has_its_rows();
     let Cells {
         mut held,
         log,

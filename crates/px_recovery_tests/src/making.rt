@@ -7,7 +7,7 @@ use std::test::Fail;
 #[test]
 fn a_store_is_made_in_an_empty_site(rt: HostRuntime) -> Result<(), Fail> {
     let mut site = MemSite::new(rt.alloc())?;
-    make(&mut site, 2, 100)?;
+    make(&mut site, 1, 16)?;
     assert_eq!(rt; site.content(FIRST), MADE.as_slice());
     for file in [SECOND, LOG, FileName::Rec(1), FileName::Index] {
         assert_eq!(rt; site.content(file).len(), 0);
@@ -32,7 +32,7 @@ fn no_store_is_made_where_there_is_something(rt: HostRuntime) -> Result<(), Fail
     ] {
         let mut site = MemSite::new(rt.alloc())?;
         site.put_file(file, bytes)?;
-        assert_eq!(rt; make(&mut site, 2, 100), made);
+        assert_eq!(rt; make(&mut site, 1, 16), made);
         if made.is_err() {
             assert_eq!(rt; site.content(file), bytes);
         }
@@ -52,8 +52,8 @@ fn each_call_of_make_may_fail(rt: HostRuntime) -> Result<(), Fail> {
         (5, Fault::Sync, Err(MakeError::NotEmpty)),
     ] {
         let mut site = MemSite::failing(rt.alloc(), &[call])?;
-        assert_eq!(rt; make(&mut site, 2, 100), Err(MakeError::Fault(fault)));
-        assert_eq!(rt; make(&mut site, 2, 100), again);
+        assert_eq!(rt; make(&mut site, 1, 16), Err(MakeError::Fault(fault)));
+        assert_eq!(rt; make(&mut site, 1, 16), again);
     }
     Ok(())
 }

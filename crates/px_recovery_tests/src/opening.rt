@@ -1,11 +1,9 @@
-ghost use Rattle.std.specs.Prelude.{◌^◌, ◌≤◌, length};
-
-use crate::files::{FOREIGN, FRONTS, LOG, SAVED, SECOND};
-use crate::stores::{found, frames, front, opened, store};
+use crate::files::{FIRST, FRAMES, LAST, LAST_FRAME, LOG, SAVED, SECOND, SECOND_FRAME, TIDY};
+use crate::scripts::{Part, look_into, played};
+use crate::stores::{found, opened, store};
 use px_memsite::MemSite;
-use px_recovery::{OpenError, make, open_store};
+use px_recovery::{OpenError, make};
 use px_site::Fault;
-use std::alloc::Global;
 use std::process::Abort;
 use std::test::Fail;
 
@@ -13,53 +11,79 @@ use std::test::Fail;
 fn a_store_that_was_made_is_opened(rt: HostRuntime) -> Result<(), Fail> {
     let mut site = MemSite::new(rt.alloc())?;
     assert_eq!(rt; opened(rt.alloc(), &mut site), Err(OpenError::NoStore));
-    make(&mut site, 2, 100)?;
+    make(&mut site, 1, 16)?;
     assert_eq!(rt; opened(rt.alloc(), &mut site), found(0, 0, 0));
     Ok(())
 }
 
+/// The first bytes of the log.
+fn front(rt: &impl Abort, size: usize) -> &'static [u8] {
+    assert!(rt; size <= FRAMES.len());
+    &FRAMES[..size]
+}
+
+/// Its frames that are whole there, and the one behind them that an opening appends.
+fn left_of(size: usize) -> (&'static [u8], &'static [u8]) {
+    if size < SECOND_FRAME {
+        (&[], &[])
+    } else if size < FRAMES.len() {
+        (&FRAMES[..SECOND_FRAME], TIDY.as_slice())
+    } else {
+        (FRAMES.as_slice(), &[])
+    }
+}
+
+/// Fronts of the log: so many bytes of it, the commits and the rows of the frames that are whole there, how many they are, and
+/// how many the next opening finds.
+const FRONTS: [(usize, u64, u64, u64, u64); 6] = [
+    (0, 0, 0, 0, 0),
+    (197, 0, 0, 0, 0),
+    (198, 0, 0, 1, 2),
+    (199, 0, 0, 1, 2),
+    (231, 0, 0, 1, 2),
+    (232, 1, 1, 2, 2),
+];
+
 #[test]
 fn a_front_of_a_log_is_opened(rt: HostRuntime) -> Result<(), Fail> {
-    for (size, whole, commits, rows) in FRONTS {
-        let mut site = store(rt.alloc(), &[], front(&rt, size))?;
-        let report = opened(rt.alloc(), &mut site);
-        assert_eq!(rt; report, found(commits, rows, whole as u64), "{size} bytes");
-        assert_eq!(rt; site.content(LOG), frames(&rt, whole));
-        assert_eq!(rt; opened(rt.alloc(), &mut site), report);
+    for (size, commits, rows, redone, again) in FRONTS {
+        let mut site = store(&rt, rt.alloc(), &[], front(&rt, size))?;
+        assert_eq!(rt;
+            opened(rt.alloc(), &mut site),
+            found(commits, rows, redone),
+            "{size} bytes"
+        );
+        let (whole, appended) = left_of(size);
+        let mut log = Vec::from_slice(rt.alloc(), whole)?;
+        log.extend_from_slice(appended)?;
+        assert_eq!(rt; site.content(LOG), log.as_slice());
+        assert_eq!(rt; opened(rt.alloc(), &mut site), found(commits, rows, again));
     }
     Ok(())
 }
 
-/// A row's table, key, tag and body.
-type Found<'a> = (u8, &'a [u8], u32, &'a [u8]);
+/// What the frames say, as a session's calls.
+const INSERTED: Part = Part {
+    lines: "a begin\na insert 1 6b31 7 616263\na commit",
+    rows: "found 1 | at 6b31 7 616263",
+};
 
-/// Opens a store with this log, and compares its rows.
-fn has_rows(rt: &impl Abort, alloc: Global, log: &[u8], rows: &[Found]) -> Result<(), Fail>
-    requires { length log.now ≤ 2 ^ 48 }
-{
-    let site = store(alloc, &[], log)?;
-    let Ok(opened) = open_store(alloc, site) else {
-        return Err(Fail::new("the store isn't opened"));
-    };
-    let left = opened.core.rows()?;
-    assert_eq!(rt; left.as_slice().len(), rows.len());
-    for (row, (table, key, tag, body)) in left.as_slice().iter().zip(rows) {
-        assert_eq!(rt; row.table, *table);
-        assert_eq!(rt; row.key.as_slice(), *key);
-        assert_eq!(rt; row.tag, *tag);
-        assert_eq!(rt; row.body.as_slice(), *body);
-    }
+#[test]
+fn a_log_has_the_frames_of_its_calls(rt: HostRuntime) -> Result<(), Fail> {
+    let site = played(rt.alloc(), &[INSERTED], "")?;
+    assert_eq!(rt; site.content(LOG), FRAMES.as_slice());
     Ok(())
 }
 
 #[test]
-fn the_rows_of_the_committed_are_there(rt: HostRuntime) -> Result<(), Fail> {
-    let first: Found = (1, b"a", 5, b"\xaa");
-    let second: Found = (1, b"b", 6, b"");
-    let third: Found = (2, b"b", 7, b"xy");
-    has_rows(&rt, rt.alloc(), frames(&rt, 6), &[first])?;
-    has_rows(&rt, rt.alloc(), frames(&rt, 8), &[first, second, third])?;
-    has_rows(&rt, rt.alloc(), frames(&rt, 10), &[second, third])?;
+fn an_insert_without_a_commit_is_tidied_once(rt: HostRuntime) -> Result<(), Fail> {
+    let left = played(rt.alloc(), &[], "a begin\na insert 1 01 0 aa")?;
+    let first = look_into(rt.alloc(), left)?;
+    assert_eq!(rt; Ok(first.report), found(0, 0, 1));
+    let second = look_into(rt.alloc(), first.site)?;
+    assert_eq!(rt; Ok(second.report), found(0, 0, 2));
+    let third = look_into(rt.alloc(), second.site)?;
+    assert_eq!(rt; Ok(third.report), found(0, 0, 2));
     Ok(())
 }
 
@@ -68,15 +92,11 @@ fn the_newer_restart_counts(rt: HostRuntime) -> Result<(), Fail> {
     // frames below `redo` aren't counted, and the log has to reach `durable`
     let short = OpenError::Damaged {
         file: LOG,
-        place: 44,
+        place: 198,
     };
-    for (count, report) in [
-        (1, Err(short)),
-        (2, found(1, 1, 1)),
-        (4, found(1, 1, 3)),
-        (10, found(4, 2, 9)),
-    ] {
-        let mut site = store(rt.alloc(), &[], frames(&rt, count))?;
+    for (size, report) in [(198, Err(short)), (231, Err(short)), (232, found(1, 1, 1))] {
+        let log = front(&rt, size);
+        let mut site = store(&rt, rt.alloc(), &[], log)?;
         site.put_file(SECOND, SAVED.as_slice())?;
         assert_eq!(rt; opened(rt.alloc(), &mut site), report);
     }
@@ -84,32 +104,44 @@ fn the_newer_restart_counts(rt: HostRuntime) -> Result<(), Fail> {
 }
 
 #[test]
-fn a_frame_without_a_change_is_damage(rt: HostRuntime) -> Result<(), Fail> {
-    let mut site = store(rt.alloc(), &[], FOREIGN.as_slice())?;
-    let damaged = OpenError::Damaged {
-        file: LOG,
-        place: 44,
-    };
-    assert_eq!(rt; opened(rt.alloc(), &mut site), Err(damaged));
-    assert_eq!(rt; site.content(LOG), FOREIGN.as_slice());
+fn a_log_without_a_number_left_takes_no_tidying(rt: HostRuntime) -> Result<(), Fail> {
+    let full = Err(OpenError::LogFull(281_474_976_710_656));
+    for (log, report) in [
+        (&[] as &[u8], found(0, 0, 0)),
+        (LAST_FRAME.as_slice(), full),
+    ] {
+        let mut site = store(&rt, rt.alloc(), &[], log)?;
+        site.put_file(FIRST, LAST.as_slice())?;
+        assert_eq!(rt; opened(rt.alloc(), &mut site), report);
+        assert_eq!(rt; site.content(LOG), log);
+    }
     Ok(())
 }
 
+/// The calls of an opening that change something or may fail, and what the next one then finds redone.
+const CALLS: [(u64, Fault, u64); 9] = [
+    (0, Fault::Read, 1),
+    (1, Fault::Read, 1),
+    (2, Fault::Sync, 1),
+    (3, Fault::Sync, 1),
+    (4, Fault::Read, 1),
+    (5, Fault::Write, 1),
+    (6, Fault::Sync, 1),
+    (7, Fault::Write, 1),
+    (8, Fault::Sync, 2),
+];
+
 #[test]
 fn each_call_of_an_opening_may_fail(rt: HostRuntime) -> Result<(), Fail> {
-    for (call, fault) in [
-        (0, Fault::Read),
-        (1, Fault::Read),
-        (2, Fault::Sync),
-        (3, Fault::Sync),
-        (4, Fault::Read),
-        (5, Fault::Write),
-        (6, Fault::Sync),
-    ] {
-        let mut site = store(rt.alloc(), &[call], front(&rt, 300))?;
+    for (call, fault, redone) in CALLS {
+        let mut site = store(&rt, rt.alloc(), &[call], front(&rt, 231))?;
         let refused = opened(rt.alloc(), &mut site);
         assert_eq!(rt; refused, Err(OpenError::Fault(fault)), "call {call}");
-        assert_eq!(rt; opened(rt.alloc(), &mut site), found(2, 2, 7));
+        assert_eq!(rt;
+            opened(rt.alloc(), &mut site),
+            found(0, 0, redone),
+            "call {call}"
+        );
     }
     Ok(())
 }

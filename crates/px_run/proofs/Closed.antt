@@ -10,8 +10,8 @@ use Rattle.px_site.proofs.Moments.{then_moments, weaker_moments}
 use Rattle.px_calls.specs.declared.status.Status.{Status}
 use Rattle.px_calls.specs.declared.status.Status.TheVariants.{Done, Usage, BadLine, NoStore, NotEmpty, Damaged, DiskFault, SourceFault, OutputFault, OutOfMemory, LogFull, TooLong}
 use Rattle.px_calls.specs.Closing.{closing_line}
-use Rattle.px_standing.specs.Found.{Found, HoldsStore, IsSettledStore, machine_of}
-use Rattle.px_standing.specs.Images.{CanMake, ImagesAreNew, ImagesStandFor}
+use Rattle.px_cell_standing.specs.Found.{Found, HoldsStore, IsSettledStore, machine_of}
+use Rattle.px_cell_standing.specs.Images.{CanMake, ImagesAreNew, ImagesStandFor}
 use Rattle.px_recovery.specs.Making.{first_file}
 use Rattle.px_recovery.proofs.Quiet.{last_moment}
 use Rattle.px_play.specs.Input.{script_of}
@@ -23,11 +23,12 @@ use Rattle.px_run.specs.Making.{Made, MakeEnds, MakesRight, RefusesStore, made_p
 use Rattle.px_run.specs.Running.{RunsRight, TakesAsTold, calls_made, machine_after, machine_left, run_pieces}
 use Rattle.px_run.specs.Told.{HasFilesOf, OnlyTells, TellFailed, TellsInAll, last_text}
 use Rattle.px_run.specs.Working.{Closes, DumpsRows, MakesStore, RefusesQuietly, RunsScript}
-use Rattle.px_run.proofs.Alike.{new_alike, settled_alike, stand_alike, store_alike}
+use Rattle.px_cell_standing.proofs.Syncing.{settled_alike, stand_alike, store_alike}
+use Rattle.px_run.proofs.Alike.{new_alike}
 use Rattle.px_run.proofs.Complete.{first_wins}
 use Rattle.px_run.proofs.Dumped.{later_done}
 use Rattle.px_run.proofs.Pieces.{only_nothing, only_spoke, then_only, told_nothing}
-use Rattle.px_run.proofs.Scripts.{later_spared, on_short, unless_broken}
+use Rattle.px_run.proofs.Scripts.{later_spared, on_short, unless_broken, unless_no_room}
 
 -- ---- the line
 
@@ -171,7 +172,8 @@ run_closed found input left a b c x y z status runs closes fell later fault = re
   read_before = runs.read_before;
   ends = runs.ends;
   told = told_in_all (run_pieces found (script_of input)) runs.whole status runs.told closes fell fault;
-  holds = unless_broken status (store_alike (machine_left found (script_of input) runs.whole status) b c (only_closes closes).content (only_closes closes).files) runs.holds;
+  holds = unless_no_room status runs.whole
+      (unless_broken status (store_alike (machine_left found (script_of input) runs.whole status) b c (only_closes closes).content (only_closes closes).files)) runs.holds;
   spared = on_short status (λ spared some.
       later_spared (λ calls. HoldsStore (machine_after found calls) b) (λ calls. HoldsStore (machine_after found calls) c) (script_of input) (runs.whole - 1)
       (λ calls. store_alike (machine_after found calls) b c (only_closes closes).content (only_closes closes).files) (omega arith) later.shorts (spared some)) runs.spared;

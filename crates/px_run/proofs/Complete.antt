@@ -1,5 +1,5 @@
 -- Where a call of the program is bound to succeed, it is done, unless memory is wanted.
-use Rattle.std.proofs.Common.{◌≡◌, ◌≢◌, ℕ, ◌+◌, ◌-◌, ◌<◌, ◌≤◌, List, [], ◌∷◌, ◌++◌, length, map, take, drop, Option, Some, None, refl, sym, ap, subst, ◌∙◌, append_assoc, inl, inr, arith, length-append}
+use Rattle.std.proofs.Common.{◌≡◌, ◌≢◌, ℕ, zero, suc, ◌+◌, ◌-◌, ◌<◌, ◌≤◌, List, [], ◌∷◌, ◌++◌, length, map, take, drop, Option, Some, None, refl, sym, ap, subst, ◌∙◌, append_assoc, inl, inr, arith, length-append}
 use Rattle.std.proofs.lemmas.List.{append-nil}
 use Rattle.px_site.specs.Cause.{Counts}
 use Rattle.px_site.specs.State.{State}
@@ -16,7 +16,7 @@ use Rattle.px_script.specs.Grammar.{command_line}
 use Rattle.px_script.specs.Lines.{complete_after, rest_after, complete_lines, open_line, last_line, lines_at_end}
 use Rattle.px_restart.proofs.Restarts.{restart_long}
 use Rattle.px_logged.specs.Logged.{logged, logged_by_all}
-use Rattle.px_standing.specs.Found.{Found, machine_of}
+use Rattle.px_cell_standing.specs.Found.{Found, machine_of}
 use Rattle.px_standing.specs.Standing.{Files, first_restart, second_restart}
 use Rattle.px_recovery.specs.Making.{IsFree, first_file, second_file}
 use Rattle.px_play.specs.Input.{AreCommands, EndsAt, EndsInput, IsFirstBad, IsOverlong, script_of}
@@ -28,8 +28,8 @@ use Rattle.px_run.specs.declared.command.Command.{Command}
 use Rattle.px_run.specs.Causes.{HasStatusCause}
 use Rattle.px_run.specs.Dumping.{DumpsRight}
 use Rattle.px_run.specs.Making.{MakesRight}
-use Rattle.px_run.specs.Premises.{CanRun, IsDoneOrShort, IsEmpty, NoneRose}
-use Rattle.px_run.specs.Running.{RunsRight}
+use Rattle.px_run.specs.Premises.{CanRun, HasRoom, IsDoneOrShort, IsEmpty, NoneRose}
+use Rattle.px_run.specs.Running.{EndsFull, FindsNoRoom, RunsRight}
 
 -- ---- `make` and `dump`
 
@@ -51,13 +51,17 @@ complete_make command tables short a c x z reads reads_now NotEmpty empty none c
 complete_make command tables short a c x z reads reads_now (DiskFault fault) empty none cause makes = absurd (none.faults fault cause.2)
 complete_make command tables short a c x z reads reads_now _ empty none cause makes = absurd makes.ends
 
-pub complete_dump : (command : Option Command) (found : Found) (a c : State) (x z : Counts) (reads reads_now : ℕ) (status : Status) → NoneRose x z → HasStatusCause command x z reads reads_now status
+has_room : (found : Found) (n : ℕ) → HasRoom found → FindsNoRoom found n → ⊥
+has_room found n room full = omega (arith, room, full.none_left, full.below)
+
+pub complete_dump : (command : Option Command) (found : Found) (a c : State) (x z : Counts) (reads reads_now : ℕ) (status : Status) → HasRoom found → NoneRose x z → HasStatusCause command x z reads reads_now status
     → DumpsRight found a c x z status → IsDoneOrShort status
-complete_dump command found a c x z reads reads_now Done none cause dumps = tt
-complete_dump command found a c x z reads reads_now OutOfMemory none cause dumps = tt
-complete_dump command found a c x z reads reads_now OutputFault none cause dumps = absurd (none.tell_faults cause.1)
-complete_dump command found a c x z reads reads_now (DiskFault fault) none cause dumps = absurd (none.faults fault cause.2)
-complete_dump command found a c x z reads reads_now _ none cause dumps = absurd dumps.ends
+complete_dump command found a c x z reads reads_now Done room none cause dumps = tt
+complete_dump command found a c x z reads reads_now OutOfMemory room none cause dumps = tt
+complete_dump command found a c x z reads reads_now OutputFault room none cause dumps = absurd (none.tell_faults cause.1)
+complete_dump command found a c x z reads reads_now (DiskFault fault) room none cause dumps = absurd (none.faults fault cause.2)
+complete_dump command found a c x z reads reads_now (LogFull n) room none cause dumps = absurd (has_room found n room dumps.ends.1)
+complete_dump command found a c x z reads reads_now _ room none cause dumps = absurd dumps.ends
 
 -- ---- lines that are all commands
 
@@ -179,6 +183,10 @@ not_full found input answered n can full =
       length-append one rest,
     )
 
+not_ends_full : (found : Found) (input : List ℕ) (whole n : ℕ) → CanRun found input → EndsFull found (script_of input) whole n → ⊥
+not_ends_full found input zero n can full = has_room found n (omega (arith, can.numbers)) full
+not_ends_full found input (suc answered) n can full = not_full found input answered n can full
+
 -- ---- `run`
 
 pub complete_run : (command : Option Command) (found : Found) (input left : List ℕ) (a c : State) (x z : Counts) (reads reads_now : ℕ) (status : Status) → CanRun found input → NoneRose x z → (ReadRose reads reads_now → ⊥)
@@ -189,7 +197,7 @@ complete_run command found input left a c x z reads reads_now OutputFault can no
 complete_run command found input left a c x z reads reads_now (DiskFault fault) can none no_read cause ends runs = absurd (none.faults fault cause.2)
 complete_run command found input left a c x z reads reads_now SourceFault can none no_read cause ends runs = absurd (no_read cause.1)
 complete_run command found input left a c x z reads reads_now (BadLine k) can none no_read cause ends runs = absurd (none_is_bad input ends.taken left k ends.in_order can.commands ends.fits)
-complete_run command found input left a c x z reads reads_now (LogFull n) can none no_read cause ends runs = absurd (not_full found input (runs.whole - 1) n can runs.ends.1)
+complete_run command found input left a c x z reads reads_now (LogFull n) can none no_read cause ends runs = absurd (not_ends_full found input runs.whole n can runs.ends)
 complete_run command found input left a c x z reads reads_now TooLong can none no_read cause ends runs =
     absurd (omega (arith, can.below, ends.fits.0, ap length ends.in_order, length-append ends.taken left))
 complete_run command found input left a c x z reads reads_now _ can none no_read cause ends runs = absurd runs.ends

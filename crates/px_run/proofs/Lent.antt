@@ -5,7 +5,7 @@ use Rattle.px_calls.specs.declared.status.Status.{Status}
 use Rattle.px_calls.specs.declared.status.Status.TheVariants.{Done, Usage, BadLine, NoStore, NotEmpty, Damaged, DiskFault, SourceFault, OutputFault, OutOfMemory, LogFull, TooLong}
 use Rattle.px_run.specs.declared.command.Command.{Command}
 use Rattle.px_site.specs.State.{State}
-use Rattle.px_standing.specs.Found.{Found, HoldsStore}
+use Rattle.px_cell_standing.specs.Found.{Found, HoldsStore}
 use Rattle.px_play.specs.Input.{script_of}
 use Rattle.px_run.specs.Causes.{HasStatusCause, NoCountFell}
 use Rattle.px_run.specs.Running.{machine_after}

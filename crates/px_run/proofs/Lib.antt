@@ -11,3 +11,4 @@ pub mod Opening
 pub mod Pieces
 pub mod Quiet
 pub mod Scripts
+pub mod Walking

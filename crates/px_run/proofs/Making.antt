@@ -11,8 +11,8 @@ use Rattle.px_site.specs.State.{State, Moment, EachMoment, Tells, spoke, telling
 use Rattle.px_site.proofs.Moments.{same_moment, tell_moments, then_moments, weaker_moments}
 use Rattle.px_calls.specs.declared.status.Status.TheVariants.{Done, OutOfMemory, DiskFault, NotEmpty}
 use Rattle.px_calls.specs.Texts.{made_line}
-use Rattle.px_standing.specs.Images.{CanMake, ImagesAreNew}
-use Rattle.px_standing.specs.Settled.{Settled}
+use Rattle.px_cell_standing.specs.Images.{CanMake, ImagesAreNew}
+use Rattle.px_cell_standing.specs.Settled.{Settled}
 use Rattle.px_standing.proofs.Standing.{last_moment}
 use Rattle.px_recovery.specs.declared.error.MakeError.{MakeError}
 use Rattle.px_recovery.specs.declared.error.MakeError.TheVariants.{OutOfMemory as MakeShort, Fault as MakeFault, NotEmpty as MakeUsed}
@@ -24,7 +24,8 @@ use Rattle.px_run.specs.Causes.{HasStatusCause}
 use Rattle.px_run.specs.Making.{Made, MakeEnds, made_pieces}
 use Rattle.px_run.specs.Working.{MakesStore}
 use Rattle.px_run.specs.Told.{OnlyTells}
-use Rattle.px_run.proofs.Alike.{new_alike, settled_alike}
+use Rattle.px_cell_standing.proofs.Syncing.{settled_alike}
+use Rattle.px_run.proofs.Alike.{new_alike}
 use Rattle.px_run.proofs.Pieces.{only_nothing, only_spoke, told_nothing}
 
 -- ---- where it isn't made

@@ -8,9 +8,11 @@ use Rattle.px_calls.specs.declared.call.Call.{Call}
 use Rattle.px_calls.specs.Texts.{numbered, opened_line}
 use Rattle.px_script.specs.Lines.{complete_lines}
 use Rattle.px_logged.specs.Recounting.{rows_now}
-use Rattle.px_standing.specs.Standing.{Files, StandsFor}
-use Rattle.px_standing.specs.Images.{IsPlainImage, KeepsStanding, HasCommitted}
-use Rattle.px_standing.specs.Found.{Found, machine_of}
+use Rattle.px_cell_standing.specs.Standing.{StandsFor}
+use Rattle.px_standing.specs.Standing.{Files}
+use Rattle.px_cell_standing.specs.Images.{HasCommitted, KeepsStanding}
+use Rattle.px_standing.specs.Images.{IsPlainImage}
+use Rattle.px_cell_standing.specs.Found.{Found, machine_of}
 use Rattle.px_play.specs.Acknowledged.{HoldsAcknowledged, KeepsAcknowledged, acknowledged}
 use Rattle.px_play.proofs.Acking.{holds_at, nothing_taken, out_behind}
 use Rattle.px_play.proofs.Parts.{open_nil}

@@ -1,5 +1,5 @@
 -- What `run` tells and leaves: the opened line, and behind it what the playing of the script does.
-use Rattle.std.proofs.Common.{◌≡◌, ℕ, suc, ◌+◌, ◌-◌, ◌≤◌, List, [], ◌++◌, length, take, Result, Err, refl, sym, ap, subst, ◌∙◌, inl, inr, arith}
+use Rattle.std.proofs.Common.{◌≡◌, ℕ, zero, suc, ◌+◌, ◌-◌, ◌≤◌, List, [], ◌++◌, length, take, Result, Err, refl, sym, ap, subst, ◌∙◌, inl, inr, arith}
 use Rattle.std.proofs.lemmas.List.{append-nil, take_all}
 use Rattle.px_site.specs.State.{State, EachMoment, told}
 use Rattle.px_site.specs.Cause.{Counts, NoneFell}
@@ -9,14 +9,15 @@ use Rattle.px_calls.specs.declared.call.Call.{Call}
 use Rattle.px_calls.specs.declared.status.Status.{Status}
 use Rattle.px_calls.specs.declared.status.Status.TheVariants.{Done, Usage, BadLine, NoStore, NotEmpty, Damaged, DiskFault, SourceFault, OutputFault, OutOfMemory, LogFull, TooLong}
 use Rattle.px_calls.specs.Texts.{opened_line}
-use Rattle.px_standing.specs.Found.{Found, HoldsStore, machine_of}
-use Rattle.px_standing.specs.Images.{KeepsStanding}
-use Rattle.px_core.specs.Core.{Kept, frames_of}
+use Rattle.px_cell_standing.specs.Found.{Found, HoldsStore, machine_of}
+use Rattle.px_cell_standing.specs.Images.{KeepsStanding}
+use Rattle.px_core.specs.Core.{frames_of}
+use Rattle.px_core.specs.declared.state.Kept.{Kept}
 use Rattle.px_core.specs.Working.{WorksFor}
 use Rattle.px_recovery.specs.declared.opening.OpenReport.{OpenReport}
 use Rattle.px_recovery.specs.declared.error.OpenError.{OpenError}
-use Rattle.px_recovery.specs.declared.error.OpenError.TheVariants.{OutOfMemory as OpenShort, Fault as OpenFault, NoStore as OpenNone, Damaged as OpenDamaged}
-use Rattle.px_recovery.specs.Errors.{IsPassing, status_of_opening}
+use Rattle.px_recovery.specs.declared.error.OpenError.TheVariants.{OutOfMemory as OpenShort, Fault as OpenFault, NoStore as OpenNone, LogFull as OpenFull, Damaged as OpenDamaged}
+use Rattle.px_recovery.specs.Errors.{FindsNoRoom, IsPassing, status_of_opening}
 use Rattle.px_recovery.specs.Opening.{report_of}
 use Rattle.px_play.specs.Acknowledged.{KeepsAcknowledged, TellsWhole, acknowledged}
 use Rattle.px_play.specs.Causes.{faults_by}
@@ -26,7 +27,7 @@ use Rattle.px_play.specs.Told.{IsTold}
 use Rattle.px_play.proofs.Parts.{open_nil}
 use Rattle.px_play.proofs.Replies.{quiet_acknowledged}
 use Rattle.px_play.proofs.Stays.{stands_whole}
-use Rattle.px_run.specs.Running.{RunEnds, calls_made, machine_after, machine_left, opening_line, run_pieces}
+use Rattle.px_run.specs.Running.{RunEnds, UnlessNoRoom, calls_made, machine_after, machine_left, opening_line, run_pieces}
 use Rattle.px_run.specs.Working.{HasTellCause, RunsBy, RunsScript, TellsPiece}
 use Rattle.px_run.proofs.Pieces.{piece_moments, told_behind, told_from, told_nothing}
 use Rattle.px_run.proofs.Quiet.{AddsNothing, front_after, front_within, opening_acknowledges, opening_keeps, opening_quiet, quiet_keeps, starting_holds, starting_told}
@@ -73,6 +74,36 @@ unless_broken OutputFault f p = f p
 unless_broken (LogFull n) f p = f p
 unless_broken _ f p = tt
 
+pub unless_no_room : (status : Status) (whole : ℕ) {P Q : Type 0} → (P → Q) → UnlessNoRoom status whole P → UnlessNoRoom status whole Q
+unless_no_room (LogFull n) zero f p = tt
+unless_no_room (LogFull n) (suc answered) f p = f p
+unless_no_room Done whole f p = f p
+unless_no_room Usage whole f p = f p
+unless_no_room (BadLine k) whole f p = f p
+unless_no_room NoStore whole f p = f p
+unless_no_room NotEmpty whole f p = f p
+unless_no_room (Damaged file place) whole f p = f p
+unless_no_room (DiskFault fault) whole f p = f p
+unless_no_room SourceFault whole f p = f p
+unless_no_room OutputFault whole f p = f p
+unless_no_room OutOfMemory whole f p = f p
+unless_no_room TooLong whole f p = f p
+
+-- some pieces were told
+with_room : (status : Status) (whole : ℕ) {P : Type 0} → P → UnlessNoRoom status (suc whole) P
+with_room (LogFull n) whole p = p
+with_room Done whole p = p
+with_room Usage whole p = p
+with_room (BadLine k) whole p = p
+with_room NoStore whole p = p
+with_room NotEmpty whole p = p
+with_room (Damaged file place) whole p = p
+with_room (DiskFault fault) whole p = p
+with_room SourceFault whole p = p
+with_room OutputFault whole p = p
+with_room OutOfMemory whole p = p
+with_room TooLong whole p = p
+
 one_less : (whole : ℕ) → suc whole - 1 ≡ whole
 one_less whole = omega arith
 
@@ -84,7 +115,7 @@ run_ends found script taken whole (DiskFault fault) stops = omega (arith, stops)
 run_ends found script taken whole SourceFault stops = omega (arith, stops)
 run_ends found script taken whole OutputFault stops = omega (arith, stops)
 run_ends found script taken whole OutOfMemory stops = omega (arith, stops)
-run_ends found script taken whole (LogFull n) stops = (omega arith, subst (λ (k : ℕ). StopsFull found.frames (machine_of found) script k n) (sym (one_less whole)) stops)
+run_ends found script taken whole (LogFull n) stops = stops
 run_ends found script taken whole TooLong stops = omega (arith, stops)
 run_ends found script taken whole _ stops = absurd stops
 
@@ -130,8 +161,9 @@ script_played {W} {state} {counts} {found} {old} {new} {input} {left} {a} {x} {s
       behind = p.little;
       ends = run_ends found script p.taken p.whole status (subst (λ (n : ℕ). StopsAfter n m script p.taken p.whole status) frames p.stops);
       told = told_behind (opening_line found) (pieces_of m script) p.whole status a (state old.site) (state new.site) line p.told;
-      holds = subst (λ (n : ℕ). UnlessBroken status (WorksFor state new (machine_after found (take n script)))) (sym (made_behind status p.whole))
-          (unless_broken status (λ (all : HoldsAll state m (take (replies_made status p.whole) script) old new). all.works) p.holds);
+      holds = with_room status p.whole
+          (subst (λ (n : ℕ). UnlessBroken status (WorksFor state new (machine_after found (take n script)))) (sym (made_behind status p.whole))
+          (unless_broken status (λ (all : HoldsAll state m (take (replies_made status p.whole) script) old new). all.works) p.holds));
       spared = on_short status (λ spared some.
           subst (λ (n : ℕ). IsSpared (λ (calls : List (ℕ × Call)). WorksFor state new (machine_after found calls)) script n x (counts new.site)) (sym (one_less p.whole))
           (later_spared (λ calls. HoldsAll state m calls old new) (λ calls. WorksFor state new (machine_after found calls)) script p.whole (λ calls all. all.works) fell.shorts (omega arith) spared)) p.spared;
@@ -215,7 +247,7 @@ run_behind {W} {state} counts {found} {core} {input} {left} {a} {b} {x} {y} {sta
       behind = runs.behind;
       ends = runs.ends;
       told = subst (λ (w : W). IsTold (run_pieces found script) runs.whole status a (state w)) (sym closed) (told_from (run_pieces found script) runs.whole status a b (state core.site) same runs.told);
-      holds = unless_broken status (settles (machine_left found script runs.whole status)) runs.holds;
+      holds = unless_no_room status runs.whole (unless_broken status (settles (machine_left found script runs.whole status))) runs.holds;
       spared = on_short status (λ spared some.
           later_spared (λ calls. WorksFor state core (machine_after found calls)) (λ calls. HoldsStore (machine_after found calls) (state site)) script (runs.whole - 1)
           (λ calls works. settles (machine_after found calls) works) fell.shorts (omega (arith, shorts)) (spared some)) runs.spared;
@@ -223,10 +255,22 @@ run_behind {W} {state} counts {found} {core} {input} {left} {a} {b} {x} {y} {sta
     }
 
 -- it gave up
-pub not_opened : (found : Found) (input : List ℕ) (a b : State) (x y : Counts) (error : OpenError) → IsPassing error → b.now.told ≡ a.now.told → RunsScript found input input a b x y (status_of_opening error)
-not_opened found input a b x y OpenShort passing same = nothing_told found input a b x y OutOfMemory tt same
-not_opened found input a b x y (OpenFault fault) passing same = nothing_told found input a b x y (DiskFault fault) tt same
-not_opened found input a b x y _ passing same = absurd passing
+pub not_opened : (found : Found) (input : List ℕ) (a b : State) (x y : Counts) (error : OpenError) → IsPassing error → FindsNoRoom found error → b.now.told ≡ a.now.told → RunsScript found input input a b x y (status_of_opening error)
+not_opened found input a b x y OpenShort passing full same = nothing_told found input a b x y OutOfMemory tt same
+not_opened found input a b x y (OpenFault fault) passing full same = nothing_told found input a b x y (DiskFault fault) tt same
+not_opened found input a b x y (OpenFull n) passing full same = record {
+  taken = [];
+  in_order = refl;
+  whole = 0;
+  read_before = omega arith;
+  behind = refl;
+  ends = record { none_left = full.0; below = full.1 };
+  told = told_nothing (run_pieces found (script_of input)) (LogFull n) same;
+  holds = tt;
+  spared = tt;
+  numbered = inl refl;
+}
+not_opened found input a b x y _ passing full same = absurd passing
 
 -- ---- where nothing was read
 
@@ -239,4 +283,5 @@ pub unopened_faults : (error : OpenError) (faults : ℕ) → faults ≡ faults_b
 unopened_faults OpenShort faults = refl
 unopened_faults (OpenFault fault) faults = refl
 unopened_faults OpenNone faults = refl
+unopened_faults (OpenFull n) faults = refl
 unopened_faults (OpenDamaged file place) faults = refl

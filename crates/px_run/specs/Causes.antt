@@ -8,7 +8,7 @@ use Rattle.px_source.specs.Source.{Rose as ReadRose}
 use Rattle.px_calls.specs.declared.status.Status.{Status}
 use Rattle.px_calls.specs.declared.status.Status.TheVariants.{Done, Usage, BadLine, NoStore, NotEmpty, Damaged, DiskFault, SourceFault, OutputFault, OutOfMemory, LogFull, TooLong}
 use Rattle.px_site.specs.declared.name.FileName.{FileName}
-use Rattle.px_xlog.specs.Log.{most_frames}
+use Rattle.px_log.specs.Log.{most_frames}
 use Rattle.px_standing.specs.Standing.{Files, HasNoRestart}
 use Rattle.px_recovery.specs.declared.error.OpenError.TheVariants.{Damaged as DamagedAt}
 use Rattle.px_recovery.specs.Errors.{HasRefusal}
@@ -29,7 +29,7 @@ HasStatusCause command old new reads reads_now (DiskFault fault) = (command ≢ 
 HasStatusCause command old new reads reads_now SourceFault = (command ≡ Some Run) × ReadRose reads reads_now
 HasStatusCause command old new reads reads_now OutputFault = (command ≢ None) × Rose old.tell_faults new.tell_faults
 HasStatusCause command old new reads reads_now OutOfMemory = command ≢ None
-HasStatusCause command old new reads reads_now (LogFull n) = (command ≡ Some Run) × (most_frames ≤ n)
+HasStatusCause command old new reads reads_now (LogFull n) = (opens command ≡ true) × (most_frames ≤ n)
 HasStatusCause command old new reads reads_now TooLong = command ≡ Some Run
 
 -- no count fell
@@ -71,8 +71,8 @@ TellsLineAlone old new counts counts_now NoStore = TellsInAll [] 0 NoStore old n
 TellsLineAlone old new counts counts_now (Damaged file place) = TellsInAll [] 0 (Damaged file place) old new counts counts_now
 TellsLineAlone old new counts counts_now _ = Unit {0}
 
--- where no store was opened, nothing was read
-abbrev pub ReadsNothing : (before left : List ℕ) → Status → Type 0
-ReadsNothing before left NoStore = left ≡ before
-ReadsNothing before left (Damaged file place) = left ≡ before
-ReadsNothing before left _ = Unit {0}
+-- where no store was opened, nothing was read; a site that doesn't tell its files may be found damaged later
+abbrev pub ReadsNothing : (tells : Type 0) → (before left : List ℕ) → Status → Type 0
+ReadsNothing tells before left NoStore = left ≡ before
+ReadsNothing tells before left (Damaged file place) = tells → left ≡ before
+ReadsNothing tells before left _ = Unit {0}

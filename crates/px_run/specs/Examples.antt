@@ -1,7 +1,7 @@
 -- A small run.
 use Rattle.std.specs.Prelude.{ℕ, List, [], ◌∷◌, ◌++◌, codes}
 use Rattle.px_model.specs.declared.row.Row.{Row}
-use Rattle.px_standing.specs.Found.{Found}
+use Rattle.px_cell_standing.specs.Found.{Found}
 
 -- what is found in a store that was just made
 abbrev pub small : Found

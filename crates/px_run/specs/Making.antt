@@ -9,8 +9,8 @@ use Rattle.px_site.specs.Cause.{Counts}
 use Rattle.px_calls.specs.declared.status.Status.{Status}
 use Rattle.px_calls.specs.declared.status.Status.TheVariants.{Done, NotEmpty, DiskFault, OutputFault, OutOfMemory}
 use Rattle.px_calls.specs.Texts.{made_line}
-use Rattle.px_standing.specs.Images.{CanMake}
-use Rattle.px_standing.specs.Settled.{Settled}
+use Rattle.px_cell_standing.specs.Images.{CanMake}
+use Rattle.px_cell_standing.specs.Settled.{Settled}
 use Rattle.px_recovery.specs.Making.{IsFree, first_file, first_saved, with_restart}
 use Rattle.px_run.specs.Told.{HasFilesOf, OnlyTells, TellsInAll}
 

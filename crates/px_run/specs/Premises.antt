@@ -7,8 +7,8 @@ use Rattle.px_calls.specs.declared.status.Status.{Status}
 use Rattle.px_calls.specs.declared.status.Status.TheVariants.{Done, OutOfMemory}
 use Rattle.px_script.specs.Lines.{lines_at_end}
 use Rattle.px_script.specs.Progress.{longest_input}
-use Rattle.px_xlog.specs.Log.{most_frames}
-use Rattle.px_standing.specs.Found.{Found, machine_of}
+use Rattle.px_log.specs.Log.{most_frames}
+use Rattle.px_cell_standing.specs.Found.{Found, machine_of}
 use Rattle.px_standing.specs.Standing.{Files}
 use Rattle.px_play.specs.Input.{AreCommands, script_of}
 use Rattle.px_play.specs.Playing.{frames_after}
@@ -27,6 +27,10 @@ IsDoneOrShort _ = ⊥
 -- no file has a byte
 abbrev pub IsEmpty : Files → Type 0
 IsEmpty files = (name : FileName) → files name ≡ []
+
+-- the log takes each frame of an opening
+abbrev pub HasRoom : Found → Type 0
+HasRoom found = found.frames ≤ most_frames
 
 -- an input that `run` can answer whole
 pub record CanRun (found : Found) (input : List ℕ) : Type 0 where

@@ -1,5 +1,5 @@
 -- `run` on a store that is found in the files, with an input that tells its bytes.
-use Rattle.std.specs.Prelude.{◌≡◌, ℕ, zero, suc, ◌+◌, ◌-◌, ◌≤◌, List, ◌∷◌, ◌++◌, length, take}
+use Rattle.std.specs.Prelude.{◌≡◌, ℕ, zero, suc, ◌+◌, ◌-◌, ◌<◌, ◌≤◌, List, ◌∷◌, ◌++◌, length, take}
 use Rattle.px_site.specs.State.{State}
 use Rattle.px_site.specs.Cause.{Counts}
 use Rattle.px_model.specs.Machine.{Machine}
@@ -9,7 +9,8 @@ use Rattle.px_calls.specs.declared.status.Status.TheVariants.{Done, Usage, BadLi
 use Rattle.px_calls.specs.Histories.{FirstCommitterWins, state_after_all}
 use Rattle.px_calls.specs.Texts.{opened_line}
 use Rattle.px_script.specs.Lines.{complete_lines, lines_at_end}
-use Rattle.px_standing.specs.Found.{Found, HoldsStore, machine_of}
+use Rattle.px_cell_standing.specs.Found.{Found, HoldsStore, machine_of}
+use Rattle.px_log.specs.Log.{most_frames}
 use Rattle.px_play.specs.Input.{TakesLittle, script_of}
 use Rattle.px_play.specs.Playing.{AreNumbered, IsSpared, OnShort, StopsFull, UnlessBroken, pieces_of}
 use Rattle.px_run.specs.Told.{TellsInAll}
@@ -26,6 +27,16 @@ run_pieces found calls = opening_line found ∷ pieces_of (machine_of found) cal
 abbrev pub machine_after : Found → List (ℕ × Call) → Machine
 machine_after found calls = state_after_all (machine_of found) calls
 
+-- the opening was to unlink a version in a frame of this number, which the log doesn't take
+pub record FindsNoRoom (found : Found) (n : ℕ) : Type 0 where
+  pub none_left : most_frames ≤ n
+  pub below : n < found.frames
+
+-- the log took no more: while the store was opened, or at a call
+abbrev pub EndsFull : Found → (script : List (ℕ × Call)) → (whole n : ℕ) → Type 0
+EndsFull found script zero n = FindsNoRoom found n
+EndsFull found script (suc answered) n = StopsFull found.frames (machine_of found) script answered n
+
 -- how many pieces were told whole, by the status: the opened line counts as one
 abbrev pub RunEnds : Found → (script : List (ℕ × Call)) → (taken : List ℕ) → (whole : ℕ) → Status → Type 0
 RunEnds found script taken whole Done = whole ≡ 1 + length (lines_at_end taken)
@@ -38,7 +49,7 @@ RunEnds found script taken whole (DiskFault fault) = whole ≤ length script
 RunEnds found script taken whole SourceFault = whole ≡ 1 + length (complete_lines taken)
 RunEnds found script taken whole OutputFault = whole ≤ length script
 RunEnds found script taken whole OutOfMemory = whole ≤ 1 + length script
-RunEnds found script taken whole (LogFull n) = (1 ≤ whole) × StopsFull found.frames (machine_of found) script (whole - 1) n
+RunEnds found script taken whole (LogFull n) = EndsFull found script whole n
 RunEnds found script taken whole TooLong = whole ≡ 1 + length (complete_lines taken)
 
 -- how many calls were made where so many pieces were told whole: at an output's fault one whose reply wasn't, but for the opened line's
@@ -50,6 +61,12 @@ calls_made status whole = whole - 1
 abbrev pub machine_left : Found → (script : List (ℕ × Call)) → (whole : ℕ) → Status → Machine
 machine_left found script whole status = machine_after found (take (calls_made status whole) script)
 
+-- but where the log had no room for the opening
+abbrev pub UnlessNoRoom : Status → (whole : ℕ) → Type 0 → Type 0
+UnlessNoRoom (LogFull n) zero P = Unit {0}
+UnlessNoRoom (LogFull n) (suc answered) P = P
+UnlessNoRoom _ whole P = P
+
 -- what `run` told, and what it left: the site has all that the calls did, and nothing else whatever a crash leaves of it
 pub record RunsRight (found : Found) (input left : List ℕ) (old new : State) (counts counts_now : Counts) (status : Status) : Type 0 where
   pub taken : List ℕ
@@ -58,7 +75,7 @@ pub record RunsRight (found : Found) (input left : List ℕ) (old new : State) (
   pub read_before : whole ≤ 1 + length (lines_at_end taken)
   pub ends : RunEnds found (script_of input) taken whole status
   pub told : TellsInAll (run_pieces found (script_of input)) whole status old new counts counts_now
-  pub holds : UnlessBroken status (HoldsStore (machine_left found (script_of input) whole status) new)
+  pub holds : UnlessNoRoom status whole (UnlessBroken status (HoldsStore (machine_left found (script_of input) whole status) new))
   -- where memory was wanted once the opened line was told
   pub spared : OnShort status (1 ≤ whole → IsSpared (λ calls. HoldsStore (machine_after found calls) new) (script_of input) (whole - 1) counts counts_now)
   pub numbered : AreNumbered found.frames (machine_of found) (take (calls_made status whole) (script_of input))

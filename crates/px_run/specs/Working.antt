@@ -1,22 +1,23 @@
 -- What is done before the line that a call ends with, for private clauses.
 use Rattle.std.specs.Prelude.{◌≡◌, ◌⊎◌, ⊤, ℕ, ◌+◌, ◌-◌, ◌<◌, ◌≤◌, List, ◌++◌, length, map, take, Result, Ok, Err}
 use Rattle.px_site.specs.State.{State, spoke}
+use Rattle.px_site.specs.declared.error.Fault.TheVariants.{Read}
 use Rattle.px_site.specs.Cause.{Counts, Rose}
 use Rattle.px_model.specs.declared.row.Row.{Row}
 use Rattle.px_model.specs.Machine.{Machine}
 use Rattle.px_calls.specs.declared.status.Status.{Status}
-use Rattle.px_calls.specs.declared.status.Status.TheVariants.{Done, Usage, NoStore, Damaged, OutputFault, OutOfMemory}
+use Rattle.px_calls.specs.declared.status.Status.TheVariants.{Done, Usage, NoStore, Damaged, DiskFault, OutputFault, OutOfMemory}
 use Rattle.px_calls.specs.Closing.{closing_line}
 use Rattle.px_calls.specs.Texts.{row_line}
 use Rattle.px_script.specs.Lines.{lines_at_end}
-use Rattle.px_standing.specs.Found.{Found, HoldsStore, machine_of}
+use Rattle.px_cell_standing.specs.Found.{Found, HoldsStore, machine_of}
 use Rattle.px_recovery.specs.Making.{IsFree}
 use Rattle.px_play.specs.Input.{script_of}
 use Rattle.px_play.specs.Playing.{AreNumbered, IsSpared, OnShort, UnlessBroken}
 use Rattle.px_play.specs.Told.{joined, IsTold}
 use Rattle.px_run.specs.Dumping.{DumpEnds, OnDone, dump_pieces}
 use Rattle.px_run.specs.Making.{MakeEnds, made_pieces}
-use Rattle.px_run.specs.Running.{RunEnds, TakesBehind, calls_made, machine_after, machine_left, run_pieces}
+use Rattle.px_run.specs.Running.{RunEnds, TakesBehind, UnlessNoRoom, calls_made, machine_after, machine_left, run_pieces}
 use Rattle.px_run.specs.Told.{OnlyTells, TellFailed}
 
 -- ---- one piece
@@ -56,22 +57,28 @@ pub record MakesStore (tables short : ℕ) (old new : State) (status : Status) :
   pub spared : (IsFree old.content → ⊥) → OnlyTells old new
   pub told : IsTold (made_pieces tables short) whole status old new
 
+-- why a row isn't told: it isn't read, or not told
+abbrev pub HasRowCause : Counts → Counts → Status → Type 0
+HasRowCause old new (DiskFault fault) = (fault ≡ Read) × Rose (old.faults Read) (new.faults Read)
+HasRowCause old new (Damaged file place) = ⊤
+HasRowCause old new status = HasTellCause old new status
+
 abbrev pub HasDumpCause : Counts → Counts → Status → Type 0
 HasDumpCause old new Done = ⊤
-HasDumpCause old new status = HasTellCause old new status
+HasDumpCause old new status = HasRowCause old new status
 
 -- the rows are told, one line after the other
 abbrev pub TellsLines : List Row → State → State → Result (Unit {0}) Status → Type 0
 TellsLines rows old new (Ok _) = new.now.told ≡ old.now.told ++ joined (map row_line rows)
 TellsLines rows old new (Err status) = (whole : ℕ) × (whole < length rows) × IsTold (map row_line rows) whole status old new
 
-pub record TellsRows (rows : List Row) (old new : State) (status : Status) : Type 0 where
+pub record TellsRows (found : Found) (old new : State) (status : Status) : Type 0 where
   pub whole : ℕ
-  pub ends : DumpEnds rows whole status
-  pub told : IsTold (dump_pieces rows) whole status old new
+  pub ends : DumpEnds found whole status
+  pub told : IsTold (dump_pieces found.rows) whole status old new
 
 pub record DumpsRows (found : Found) (old new : State) (status : Status) : Type 0 where
-  pub tells : TellsRows found.rows old new status
+  pub tells : TellsRows found old new status
   pub holds : OnDone status (HoldsStore (machine_of found) new)
 
 -- what `run` told, and what holds of the machine after the calls
@@ -83,7 +90,7 @@ pub record RunsBy (Holds : Machine → Type 0) (found : Found) (input left : Lis
   pub behind : TakesBehind input left whole
   pub ends : RunEnds found (script_of input) taken whole status
   pub told : IsTold (run_pieces found (script_of input)) whole status old new
-  pub holds : UnlessBroken status (Holds (machine_left found (script_of input) whole status))
+  pub holds : UnlessNoRoom status whole (UnlessBroken status (Holds (machine_left found (script_of input) whole status)))
   pub spared : OnShort status (1 ≤ whole → IsSpared (λ calls. Holds (machine_after found calls)) (script_of input) (whole - 1) counts counts_now)
   pub numbered : AreNumbered found.frames (machine_of found) (take (calls_made status whole) (script_of input))
 

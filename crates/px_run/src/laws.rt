@@ -5,7 +5,7 @@ ghost use Rattle.px_play.specs.Input.{script_of};
 ghost use Rattle.px_play.specs.Told.{joined};
 ghost use Rattle.px_model.specs.Machine.{commits};
 ghost use Rattle.px_logged.specs.Recounting.{rows_now};
-ghost use Rattle.px_standing.specs.Found.{machine_of};
+ghost use Rattle.px_cell_standing.specs.Found.{machine_of};
 ghost use Rattle.px_play.specs.Playing.{frames_after};
 ghost use Rattle.px_run.specs.Command.{command_of};
 ghost use Rattle.px_run.specs.Examples.{small, small_input, small_row, small_told};

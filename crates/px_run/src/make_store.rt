@@ -2,7 +2,7 @@
 ghost use Rattle.std.specs.Prelude.{◌≡◌, ◌≤◌, Some};
 ghost use Rattle.px_site.specs.Cause.{NoneFell};
 ghost use Rattle.px_site.specs.State.{EachMoment};
-ghost use Rattle.px_standing.specs.Images.{CanMake, ImagesAreNew};
+ghost use Rattle.px_cell_standing.specs.Images.{CanMake, ImagesAreNew};
 ghost use Rattle.px_run.specs.Causes.{HasStatusCause};
 ghost use Rattle.px_run.specs.Working.{MakesStore};
 ghost use Rattle.px_run.specs.declared.command.Command.{Command};

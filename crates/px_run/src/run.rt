@@ -3,8 +3,8 @@ ghost use Rattle.std.specs.Prelude.{◌≡◌, ◌≢◌, ◌≤◌, ℕ, true, 
 ghost use Rattle.px_site.specs.Cause.{NoneFell};
 ghost use Rattle.px_site.specs.State.{EachMoment};
 ghost use Rattle.px_source.specs.Source.{Rose as ReadRose};
-ghost use Rattle.px_standing.specs.Images.{CanMake, ImagesAreNew, ImagesStandFor};
-ghost use Rattle.px_standing.specs.Found.{Found, IsFound, IsSettledStore};
+ghost use Rattle.px_cell_standing.specs.Images.{CanMake, ImagesAreNew, ImagesStandFor};
+ghost use Rattle.px_cell_standing.specs.Found.{Found, IsFoundOn, IsSettledStore};
 ghost use Rattle.px_play.specs.Acknowledged.{KeepsAcknowledged};
 ghost use Rattle.px_play.specs.Causes.{faults_by};
 ghost use Rattle.px_play.specs.Input.{EndsInput, script_of};
@@ -12,7 +12,7 @@ ghost use Rattle.px_run.specs.Causes.{HasStatusCause, NoCountFell, ReadsNothing,
 ghost use Rattle.px_run.specs.Command.{IsMakeable, command_of, opens};
 ghost use Rattle.px_run.specs.Dumping.{DumpsRight};
 ghost use Rattle.px_run.specs.Making.{MakesRight};
-ghost use Rattle.px_run.specs.Premises.{CanRun, IsDoneOrShort, IsEmpty, NoneRose};
+ghost use Rattle.px_run.specs.Premises.{CanRun, HasRoom, IsDoneOrShort, IsEmpty, NoneRose};
 ghost use Rattle.px_run.specs.Running.{RunsRight, TakesAsTold, machine_after};
 ghost use Rattle.px_run.specs.Working.{DumpsRows, MakesStore, RefusesQuietly, RunsScript};
 ghost use Rattle.px_run.specs.declared.command.Command.{Command};
@@ -41,9 +41,10 @@ use std::alloc::Global;
 /// The first error ends the call. `Usage`: the words are none of these. `NoStore` and `Damaged`: `run` and `dump` found no
 /// store, or one that isn't whole at that place. `NotEmpty`: `make` found a store or another file. `BadLine`, `SourceFault`
 /// and `TooLong` are `run`'s, at its input. `DiskFault`: a call on a file failed; `OutputFault`: a piece couldn't be told, and
-/// a front of it may have been. `LogFull`: `run` had a frame to write for which the log has no number. `OutOfMemory`: memory
-/// was wanted. An error of the telling of the last line changes nothing. Once a store was opened, all but `DiskFault` leave it
-/// with all that the calls did, and nothing else, and so does `OutOfMemory` but where the site wanted memory within a commit.
+/// a front of it may have been. `LogFull`: the opening, which unlinks each version that nobody will see in a frame of its own,
+/// or a call of `run` had a frame to write for which the log has no number. `OutOfMemory`: memory was wanted. An error of the
+/// telling of the last line changes nothing. Once a store was opened, all but `DiskFault` leave it with all that the calls did,
+/// and nothing else, and so does `OutOfMemory` but where the site wanted memory within a commit.
 pub fn pbxt_run<W: Site, S: Source>(
     alloc: Global,
     words: &WordList,
@@ -61,22 +62,22 @@ pub fn pbxt_run<W: Site, S: Source>(
 
     // ---- how the input was read; each telling may be refused, and ends the run, so that `taken` holds at each answer
     ensures input { S.tells → command_of words.now ≡ Some Command.Run → EndsInput (S.left source.old) (S.left source.new) result }
-    ensures unopened { S.tells → command_of words.now ≡ Some Command.Run → ReadsNothing (S.left source.old) (S.left source.new) result }
+    ensures unopened { S.tells → command_of words.now ≡ Some Command.Run → ReadsNothing W.tells (S.left source.old) (S.left source.new) result }
     ensures unread { S.tells → command_of words.now ≢ Some Command.Run → S.left source.new ≡ S.left source.old }
     ensures read_faults { command_of words.now ≡ Some Command.Run → S.faults source.new ≡ faults_by result (S.faults source.old) }
     ensures taken { W.tells → S.tells → command_of words.now ≡ Some Command.Run
-        → (found : Found) → IsFound found (W.state site.old).content
+        → (found : Found) → IsFoundOn found (W.state site.old)
         → TakesAsTold found (S.left source.old) (S.left source.new) (W.state site.old) (W.state site.new) (W.counts site.old) (W.counts site.new) result }
 
     // ---- `run`: what it told and left, each moment, and that it isn't given up
     ensures runs { W.tells → S.tells → command_of words.now ≡ Some Command.Run
-        → (found : Found) → IsFound found (W.state site.old).content
+        → (found : Found) → IsFoundOn found (W.state site.old)
         → RunsRight found (S.left source.old) (S.left source.new) (W.state site.old) (W.state site.new) (W.counts site.old) (W.counts site.new) result }
     ensures any_moment { W.tells → S.tells → command_of words.now ≡ Some Command.Run
         → (found : Found) → IsSettledStore found (W.state site.old)
         → EachMoment (KeepsAcknowledged (machine_after found (script_of (S.left source.old))) (W.state site.old).now.told) (W.state site.old) (W.state site.new) }
     ensures complete { W.tells → S.tells → command_of words.now ≡ Some Command.Run
-        → (found : Found) → IsFound found (W.state site.old).content → CanRun found (S.left source.old)
+        → (found : Found) → IsFoundOn found (W.state site.old) → CanRun found (S.left source.old)
         → NoneRose (W.counts site.old) (W.counts site.new) → (ReadRose (S.faults source.old) (S.faults source.new) → ⊥) → IsDoneOrShort result }
 
     // ---- `make`
@@ -89,10 +90,10 @@ pub fn pbxt_run<W: Site, S: Source>(
 
     // ---- `dump`
     ensures dumps { W.tells → command_of words.now ≡ Some Command.Dump
-        → (found : Found) → IsFound found (W.state site.old).content
+        → (found : Found) → IsFoundOn found (W.state site.old)
         → DumpsRight found (W.state site.old) (W.state site.new) (W.counts site.old) (W.counts site.new) result }
     ensures complete_dump { W.tells → command_of words.now ≡ Some Command.Dump
-        → (found : Found) → IsFound found (W.state site.old).content → NoneRose (W.counts site.old) (W.counts site.new) → IsDoneOrShort result }
+        → (found : Found) → IsFoundOn found (W.state site.old) → HasRoom found → NoneRose (W.counts site.old) (W.counts site.new) → IsDoneOrShort result }
     ensures same_at_any_moment { W.tells → command_of words.now ≡ Some Command.Dump
         → (found : Found) → IsSettledStore found (W.state site.old)
         → EachMoment (ImagesStandFor found.commits found.rows) (W.state site.old) (W.state site.new) }
@@ -118,11 +119,11 @@ fn carry_out_on<W: Site, S: Source>(
     ensures none_fell { NoCountFell (W.counts site.old) (W.counts site.new) }
     ensures source_none_fell { S.faults source.old ≤ S.faults source.new }
     ensures input { S.tells → command ≡ Some Command.Run → EndsInput (S.left source.old) (S.left source.new) result }
-    ensures unopened { S.tells → command ≡ Some Command.Run → ReadsNothing (S.left source.old) (S.left source.new) result }
+    ensures unopened { S.tells → command ≡ Some Command.Run → ReadsNothing W.tells (S.left source.old) (S.left source.new) result }
     ensures unread { S.tells → command ≢ Some Command.Run → S.left source.new ≡ S.left source.old }
     ensures read_faults { command ≡ Some Command.Run → S.faults source.new ≡ faults_by result (S.faults source.old) }
     ensures runs { W.tells → S.tells → command ≡ Some Command.Run
-        → (found : Found) → IsFound found (W.state site.old).content
+        → (found : Found) → IsFoundOn found (W.state site.old)
         → RunsScript found (S.left source.old) (S.left source.new) (W.state site.old) (W.state site.new) (W.counts site.old) (W.counts site.new) result }
     ensures any_moment { W.tells → S.tells → command ≡ Some Command.Run
         → (found : Found) → IsSettledStore found (W.state site.old)
@@ -132,7 +133,7 @@ fn carry_out_on<W: Site, S: Source>(
     ensures new_at_any_moment { W.tells → (tables short : ℕ) → command ≡ Some (Command.Make tables short)
         → CanMake (W.state site.old) → EachMoment ImagesAreNew (W.state site.old) (W.state site.new) }
     ensures dumps { W.tells → command ≡ Some Command.Dump
-        → (found : Found) → IsFound found (W.state site.old).content
+        → (found : Found) → IsFoundOn found (W.state site.old)
         → DumpsRows found (W.state site.old) (W.state site.new) result }
     ensures same_at_any_moment { W.tells → command ≡ Some Command.Dump
         → (found : Found) → IsSettledStore found (W.state site.old)
@@ -157,11 +158,11 @@ fn carry_out<W: Site, S: Source>(
     ensures none_fell { NoneFell (W.counts site) (W.counts result.site) }
     ensures source_none_fell { S.faults source.old ≤ S.faults source.new }
     ensures input { S.tells → command ≡ Some Command.Run → EndsInput (S.left source.old) (S.left source.new) result.status }
-    ensures unopened { S.tells → command ≡ Some Command.Run → ReadsNothing (S.left source.old) (S.left source.new) result.status }
+    ensures unopened { S.tells → command ≡ Some Command.Run → ReadsNothing W.tells (S.left source.old) (S.left source.new) result.status }
     ensures unread { S.tells → command ≢ Some Command.Run → S.left source.new ≡ S.left source.old }
     ensures read_faults { command ≡ Some Command.Run → S.faults source.new ≡ faults_by result.status (S.faults source.old) }
     ensures runs { W.tells → S.tells → command ≡ Some Command.Run
-        → (found : Found) → IsFound found (W.state site).content
+        → (found : Found) → IsFoundOn found (W.state site)
         → RunsScript found (S.left source.old) (S.left source.new) (W.state site) (W.state result.site) (W.counts site) (W.counts result.site) result.status }
     ensures any_moment { W.tells → S.tells → command ≡ Some Command.Run
         → (found : Found) → IsSettledStore found (W.state site)
@@ -171,7 +172,7 @@ fn carry_out<W: Site, S: Source>(
     ensures new_at_any_moment { W.tells → (tables short : ℕ) → command ≡ Some (Command.Make tables short)
         → CanMake (W.state site) → EachMoment ImagesAreNew (W.state site) (W.state result.site) }
     ensures dumps { W.tells → command ≡ Some Command.Dump
-        → (found : Found) → IsFound found (W.state site).content
+        → (found : Found) → IsFoundOn found (W.state site)
         → DumpsRows found (W.state site) (W.state result.site) result.status }
     ensures same_at_any_moment { W.tells → command ≡ Some Command.Dump
         → (found : Found) → IsSettledStore found (W.state site)

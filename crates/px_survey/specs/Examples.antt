@@ -7,7 +7,7 @@ use Rattle.px_chain.specs.Table.{Table}
 use Rattle.px_cells.specs.Unused.{unused_slot}
 use Rattle.px_survey.specs.Cells.{table_of}
 
--- a row with the key 6b, an empty body and no older variation
+-- a row with the key 6b, an empty body and no older version
 abbrev pub row_slot : (row : ℕ) → Slot
 row_slot row = record unused_slot { state = Row; xn = 1; row = row; key = 107 ∷ [] }
 

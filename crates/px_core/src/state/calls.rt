@@ -7,7 +7,7 @@ ghost use Rattle.px_standing.specs.Images.{LeavesOthers};
 ghost use Rattle.px_core.specs.Core.{IsWell};
 ghost use Rattle.px_core.specs.Errors.{IsPassing};
 ghost use Rattle.px_core.specs.Serving.{Serves};
-ghost use Rattle.px_core.specs.Working.{Answers, CountsFor, FindsFull, Refuses, StandsWithin, WorksFor};
+ghost use Rattle.px_core.specs.Working.{Answers, FindsFull, Refuses, StandsWithin, WorksFor};
 
 use super::{Core, Kept};
 use crate::CoreError;
@@ -18,8 +18,7 @@ use px_site::Site;
 impl<W: Site> Core<W> {
     /// One call of a session, whichever it is: its reply, or why the core gives up.
     ///
-    /// What the reply is, and what stands at each moment, is said of every machine that the core works for; of a write where the
-    /// machine counts its tables' versions.
+    /// What the reply is, and what stands at each moment, is said of every machine that the core works for.
     ///
     /// - `OutOfMemory`: the call or the site wanted memory, a commit and a rollback only where the site did. Where it was the
     ///   sync of a commit that did, the core is broken from then on.
@@ -29,12 +28,12 @@ impl<W: Site> Core<W> {
     /// - `Damaged`: a cell isn't what a store may have there. Never on a site that tells its files: the opening has looked at them.
     /// - `Broken`: exactly where the core keeps an error of an earlier call.
     pub fn step(&mut self, session: Session, call: Call) -> Result<Reply, CoreError>
-        ensures answered { W.tells → (m : Machine) → WorksFor W.state self.old m → CountsFor call m → IfOk result (Answers W.state session call m self.old self.new) }
-        ensures moments { W.tells → (m : Machine) → WorksFor W.state self.old m → CountsFor call m → StandsWithin W.state session call m self.old self.new }
+        ensures answered { W.tells → (m : Machine) → WorksFor W.state self.old m → IfOk result (Answers W.state session call m self.old self.new) }
+        ensures moments { W.tells → (m : Machine) → WorksFor W.state self.old m → StandsWithin W.state session call m self.old self.new }
         ensures others { W.tells → (m : Machine) → WorksFor W.state self.old m
             → EachMoment (LeavesOthers (W.state self.old.site).now) (W.state self.old.site) (W.state self.new.site) }
         ensures refused { IfErr result (Refuses W.tells W.state W.counts call self.old self.new) }
-        ensures full { W.tells → (m : Machine) → WorksFor W.state self.old m → CountsFor call m → IfErr result (FindsFull session call m self.old) }
+        ensures full { W.tells → (m : Machine) → WorksFor W.state self.old m → IfErr result (FindsFull session call m self.old) }
         ensures sound { W.tells → IfErr result IsPassing }
         ensures broken { (error : SiteError) → self.old.error ≡ Some error → IsErrOf result (CoreError.Broken error) }
         ensures steady { OnOk result (self.new.error ≡ None) }

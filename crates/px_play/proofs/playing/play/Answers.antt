@@ -6,7 +6,7 @@ use Rattle.px_script.specs.Progress.{Progress}
 use Rattle.px_play.specs.Input.{script_of}
 use Rattle.px_play.specs.Reading.{IsRead}
 use Rattle.px_play.specs.Turns.{HasTurnEnd}
-use Rattle.px_play.proofs.Inputs.{few_calls, nothing_handed}
+use Rattle.px_play.proofs.Inputs.{few_calls, lines_below, nothing_handed}
 use Rattle.px_play.proofs.Played.{ends_input, keeps_end, keeps_more, keeps_none, played_more, played_none, reading_ends, turn_ends, turn_faults, turn_input}
 use Rattle.px_play.proofs.playing.play.Goals as goal
 
@@ -37,6 +37,10 @@ returns-in-Err-clause-plays g c = λ tells tells_too m works.
       played = c.loop-answered.invariant.played tells tells_too m works;
     })
 
+pub returns-in-Err-clause-moments : goal.returns-in-Err-clause-moments
+returns-in-Err-clause-moments g c = λ tells tells_too m works before so_far told whole all.
+    (c.loop-answered.invariant.kept tells tells_too m works before (record { so_far = so_far; told = told; whole = whole; all = all })).moments
+
 pub returns-in-Err-turn-clause-source_faults : goal.returns-in-Err-turn-clause-source_faults
 returns-in-Err-turn-clause-source_faults g c =
     turn_faults c.line.result.now (c.loop-answered.answered + 1) c.in-Err-turn.status c.in-Err-turn.ensures.ends (g.S.Source.faults c.args.source.now) (g.S.Source.faults c.next_line.new.source) (c.in_default.ensures.no_fault ∙ c.loop-answered.invariant.source_faults)
@@ -54,7 +58,7 @@ returns-in-Err-turn-clause-plays g c = λ tells tells_too m works.
     let asked = c.in_default.ensures.asked tells_too (g.S.Source.left c.args.source.now) read in
     let status = c.in-Err-turn.status in
     let said = c.in-Err-turn.ensures in
-    turn_ends g.W.Site.state g.W.Site.counts status (subst (λ (line : List ℕ). HasTurnEnd line (c.loop-answered.answered + 1) status) c.line.ensures said.ends) asked (few_calls read) played c.loop-answered.invariant.none_fell
+    turn_ends g.W.Site.state g.W.Site.counts status (subst (λ (line : List ℕ). HasTurnEnd line (c.loop-answered.answered + 1) status) c.line.ensures said.ends) (said.sound tells) asked (few_calls read) played c.loop-answered.invariant.none_fell
     (λ none. said.unplayed (ap command_line c.line.ensures ∙ none))
     (λ d is. said.plays tells d (ap command_line c.line.ensures ∙ is) _ played.made.holds.works)
 
@@ -86,3 +90,13 @@ loop-answered-preserved g c =
           let played = known.played tells tells_too m works in
           keeps_more g.W.Site.counts d (next tells_too).0 (said.plays tells d said.done.1 _ played.made.holds.works) (known.kept tells tells_too m works told acks) (said.moments tells d said.done.1 _ played.made.holds.works);
     }
+
+-- no script has so many lines
+pub returns-clause-plays : goal.returns-clause-plays
+returns-clause-plays g c = λ tells tells_too m works.
+    let read = c.loop-answered.invariant.read tells_too in
+    absurd (omega (arith, c.loop-answered-test.false, lines_below read))
+
+pub returns-clause-moments : goal.returns-clause-moments
+returns-clause-moments g c = λ tells tells_too m works before so_far told whole all.
+    (c.loop-answered.invariant.kept tells tells_too m works before (record { so_far = so_far; told = told; whole = whole; all = all })).moments

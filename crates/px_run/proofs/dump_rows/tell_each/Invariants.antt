@@ -1,21 +1,23 @@
-use Rattle.std.proofs.Common.{◌≡◌, ◌++◌, map, take}
+use Rattle.std.proofs.Common.{◌≡◌, true, None}
 use Rattle.px_site.specs.Cause.{NoneFell}
+use Rattle.px_logged.specs.Recounting.{rows_now}
 use Rattle.px_model.specs.Machine.{Machine}
-use Rattle.px_calls.specs.Texts.{row_line}
+use Rattle.px_model.specs.Rows.{in_order}
 use Rattle.px_core.specs.Working.{WorksFor}
-use Rattle.px_play.specs.Told.{joined}
+use Rattle.px_run.proofs.Walking.{HasWalked}
 use Rattle.px_run.proofs.dump_rows.tell_each.Given as goal
 use Rattle.px_run.specs.Told.{OnlyTells}
 
 -- a line was told for each row so far
-abbrev pub invariant-loop-row : goal.invariant-loop-row
-invariant-loop-row g l =
-    let old = g.W.Site.state l.fn.core.site in
-    let new = g.W.Site.state l.core.site in
+abbrev pub invariant-loop-told : goal.invariant-loop-told
+invariant-loop-told g l =
+    let tells = g.W.Site.tells in
+    let state = g.W.Site.state in
+    let old = l.fn.core in
     record {
-      told : g.W.Site.tells → new.now.told ≡ old.now.told ++ joined (map row_line (take l.row-index l.rows));
-      only : g.W.Site.tells → OnlyTells old new;
-      rest : l.core ≡ record l.fn.core { site = l.core.site };
-      works : g.W.Site.tells → (m : Machine) → WorksFor g.W.Site.state l.fn.core m → WorksFor g.W.Site.state l.core m;
-      none_fell : NoneFell (g.W.Site.counts l.fn.core.site) (g.W.Site.counts l.core.site);
+      whole : l.core.error ≡ None;
+      walked : tells → (m : Machine) → WorksFor state old m → in_order (rows_now m) ≡ true → HasWalked (rows_now m) l.last l.told (state old.site) (state l.core.site);
+      only : tells → OnlyTells (state old.site) (state l.core.site);
+      works : tells → (m : Machine) → WorksFor state old m → WorksFor state l.core m;
+      none_fell : NoneFell (g.W.Site.counts old.site) (g.W.Site.counts l.core.site);
     }

@@ -1,6 +1,6 @@
 use Rattle.std.proofs.Common.{sym, subst}
 use Rattle.px_site.specs.State.{EachMoment}
-use Rattle.px_standing.specs.Images.{ImagesAreNew, ImagesStandFor}
+use Rattle.px_cell_standing.specs.Images.{ImagesAreNew, ImagesStandFor}
 use Rattle.px_play.specs.Acknowledged.{KeepsAcknowledged}
 use Rattle.px_play.specs.Input.{script_of}
 use Rattle.px_run.specs.Causes.{HasStatusCause, NoCountFell, ShowsRefusal}

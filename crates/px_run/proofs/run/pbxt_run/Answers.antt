@@ -1,4 +1,5 @@
 use Rattle.std.proofs.Common.{◌∙◌}
+use Rattle.px_run.proofs.Alike.{settled_found}
 use Rattle.px_run.proofs.Closed.{alone, dump_closed, make_closed, new_closed, only_closes, run_closed, same_closed, taken_closed}
 use Rattle.px_run.proofs.Complete.{complete_dump, complete_make, complete_run}
 use Rattle.px_run.proofs.Counted.{later_cause, output_rose, then_no_fall}
@@ -38,7 +39,7 @@ returns-clause-any_moment g c t u is found store =
     (g.W.Site.state c.args.site.now) (g.W.Site.state c.carry_out_on-status.new.site) (g.W.Site.state c.tell_closing_line.new.site)
     (g.W.Site.counts c.args.site.now) (g.W.Site.counts c.carry_out_on-status.new.site) (g.W.Site.counts c.tell_closing_line.new.site) store
     (c.carry_out_on-status.ensures.any_moment t u (c.of.ensures.command ∙ is) found store)
-    (c.carry_out_on-status.ensures.runs t u (c.of.ensures.command ∙ is) found store.is_found) (c.tell_closing_line.ensures.closes t)
+    (c.carry_out_on-status.ensures.runs t u (c.of.ensures.command ∙ is) found (settled_found found (g.W.Site.state c.args.site.now) store)) (c.tell_closing_line.ensures.closes t)
 
 pub returns-clause-makes : goal.returns-clause-makes
 returns-clause-makes g c t tables short is =
@@ -82,9 +83,9 @@ returns-clause-complete_make g c t tables short is empty none =
     (returns-clause-makes g c t tables short is)
 
 pub returns-clause-complete_dump : goal.returns-clause-complete_dump
-returns-clause-complete_dump g c t is found is_found none =
+returns-clause-complete_dump g c t is found is_found room none =
     complete_dump c.of.result found (g.W.Site.state c.args.site.now) (g.W.Site.state c.tell_closing_line.new.site)
-    (g.W.Site.counts c.args.site.now) (g.W.Site.counts c.tell_closing_line.new.site) (g.S.Source.faults c.args.source.now) (g.S.Source.faults c.carry_out_on-status.new.source) c.carry_out_on-status.result none
+    (g.W.Site.counts c.args.site.now) (g.W.Site.counts c.tell_closing_line.new.site) (g.S.Source.faults c.args.source.now) (g.S.Source.faults c.carry_out_on-status.new.source) c.carry_out_on-status.result room none
     (later_cause c.of.result (g.W.Site.counts c.args.site.now) (g.W.Site.counts c.carry_out_on-status.new.site) (g.W.Site.counts c.tell_closing_line.new.site) (g.S.Source.faults c.args.source.now) (g.S.Source.faults c.carry_out_on-status.new.source)
     c.carry_out_on-status.result c.carry_out_on-status.ensures.cause c.tell_closing_line.ensures.none_fell)
     (returns-clause-dumps g c t is found is_found)

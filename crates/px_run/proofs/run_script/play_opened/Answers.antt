@@ -1,6 +1,6 @@
 use Rattle.std.proofs.Common.{◌∙◌, Ok, Err, ap}
 use Rattle.px_site.specs.State.{State}
-use Rattle.px_standing.specs.Found.{machine_of}
+use Rattle.px_cell_standing.specs.Found.{machine_of}
 use Rattle.px_core.specs.Core.{frames_of}
 use Rattle.px_play.specs.Input.{script_of}
 use Rattle.px_run.proofs.Scripts.{line_moments, line_untold, script_moments, script_played, tells_opening, untold_faults}

@@ -1,11 +1,11 @@
 use Rattle.std.proofs.Common.{◌≡◌, true, ◌+◌, ◌<◌, ◌^◌, refl, sym, ap, ◌∙◌, inl, arith}
 use Rattle.std.proofs.lemmas.Result.{err_from_is_err_and}
+use Rattle.std.specs.Prelude.{⊤}
 use Rattle.px_active.specs.declared.active.Active.{Active}
 use Rattle.px_calls.specs.declared.call.Call.TheVariants.{Commit}
 use Rattle.px_history.specs.Steps.{Step}
 use Rattle.px_site.proofs.Causes.{no_fall}
 use Rattle.px_core.specs.Errors.{kept_after}
-use Rattle.px_core.specs.Working.{CountsFor}
 use Rattle.px_core.specs.declared.state.Kept.{Kept}
 use Rattle.px_core.proofs.Appended.{Appends, Fails, fails_does, had_room, stands_on}
 use Rattle.px_core.proofs.Ending.{EndsInMemory, Flushes, commit_does, commit_framed, commit_logged, commit_step, empty_end_does, ends_behind, none_counted, some_logged, sync_fails, unmoved}
@@ -16,7 +16,7 @@ pub returns-in_default : goal.returns-in_default
 returns-in_default g c =
     let old : Kept g.row.W.Denot = c.args.self.now in
     let new : Kept g.row.W.Denot = record old { active = c.end.new.self } in
-    empty_end_does g.W.Site.tells g.W.Site.state g.W.Site.counts c.args.session true old new c.end.result (λ m works. CountsFor Commit m)
+    empty_end_does g.W.Site.tells g.W.Site.state g.W.Site.counts c.args.session true old new c.end.result (λ m works. ⊤)
     (record { reply_is = c.end.ensures.reply; active = c.end.ensures.active; xacts = c.end.ensures.xacts })
     (unmoved g.W.Site.tells g.W.Site.state old c.end.new.self) c.requires.well c.requires.whole
     (c.end.ensures.commits ∙ none_counted old.active c.args.session true (sym c.writer.ensures.is ∙ c.in_default.is)) no_fall
@@ -45,7 +45,7 @@ returns-in-Err g c =
       none_fell = c.append_end.ensures.none_fell;
     } in
     rw (c.after_log_error.ensures.keeps, c.after_log_error.ensures.answer)
-    (fails_does tells state counts c.args.session Commit old new (λ m works. CountsFor Commit m) c.requires.well error fails c.in-Err.ensures.room (inl refl)
+    (fails_does tells state counts c.args.session Commit old new (λ m works. ⊤) c.requires.well error fails c.in-Err.ensures.room (inl refl)
     (λ t m works holds. some_logged _ (commit_logged m c.args.session xn (c.in-Some.ensures.who m works.active)))
     (λ t m works holds. stands_on tells state c.args.session Commit old new (Step.commit xn number) t m works
     (commit_step state c.args.session xn number old m works (c.in-Some.ensures.who m works.active) (ap (λ n. n + 1) works.active.commits) small)
@@ -81,7 +81,7 @@ returns-in_err-sync g c =
       none_fell = c.sync.ensures.none_fell;
     } in
     rw (p.1, p.2)
-    (sync_fails tells state counts c.args.session xn number old mid synced appends flushes c.requires.well (λ m works. CountsFor Commit m)
+    (sync_fails tells state counts c.args.session xn number old mid synced appends flushes c.requires.well (λ m works. ⊤)
     (λ m works. commit_step state c.args.session xn number old m works (c.in-Some.ensures.who m works.active) (ap (λ n. n + 1) works.active.commits) small)
     c.in_err-sync.field-0.0 c.in_err-sync.ensures.breaks same c.in_err-sync.ensures.cause c.in_err-sync.ensures.own)
 
@@ -117,10 +117,10 @@ returns g c =
     let ends : EndsInMemory c.args.session true old new c.end-2.result =
     ends_behind c.args.session true old synced new c.end-2.result same
     (record { reply_is = c.end-2.ensures.reply; active = c.end-2.ensures.active; xacts = c.end-2.ensures.xacts }) in
-    commit_does tells state counts c.args.session xn number old mid new appends flushes c.requires.well (λ m works. CountsFor Commit m)
+    commit_does tells state counts c.args.session xn number old mid new appends flushes c.requires.well (λ m works. ⊤)
     (λ m works. commit_step state c.args.session xn number old m works (c.in-Some.ensures.who m works.active) (ap (λ n. n + 1) works.active.commits) small)
     c.end-2.result (c.in_ok-sync.ensures.still ∙ c.requires.whole)
     (let count = ap (λ (a : Active). a.commits) same in omega (arith, count, c.end-2.ensures.few))
     c.in_ok-sync.ensures.flushed
-    (λ m works. commit_framed tells state counts c.args.session xn number old new c.end-2.result (λ m works. CountsFor Commit m) ends m works
+    (λ m works. commit_framed tells state counts c.args.session xn number old new c.end-2.result (λ m works. ⊤) ends m works
     (c.in-Some.ensures.who m works.active) (ap (λ n. n + 1) works.active.commits) small)

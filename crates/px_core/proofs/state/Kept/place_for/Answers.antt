@@ -37,7 +37,7 @@ returns-in-Err g c =
     let call = c.args.call.now in
     found_refusal tells state counts c.args.session call old new refl c.may_write.ensures.reads.stays c.in-Err.refusal
     (subst (λ (a : Result Writer Reply). IfErr a (λ reply. is_refusal reply ≡ _)) c.in-Err.is c.in_ok-writer.ensures.refusal)
-    (λ t m works counted. subst (λ (s : ℕ). c.in-Err.refusal ≡ reply_of m s call) on.session
+    (λ t m works. subst (λ (s : ℕ). c.in-Err.refusal ≡ reply_of m s call) on.session
     (subst (λ (a : Result Writer Reply). IfErr a (λ reply. reply ≡ reply_of m c.caller-caller.result.session call)) c.in-Err.is
     (c.in_ok-writer.ensures.refused t on.on m (last_store works.life) call
     (caller_sees tells state counts c.args.session call old new c.caller-caller.result on.session on.xacts m works) c.asked_by-asked.ensures)))
@@ -62,7 +62,7 @@ returns-in-Some g c =
     (subst (λ (a : Result Writer Reply). IfOk a (IsAdmitted c.caller-caller.result old.active.locks asked)) c.in-Ok.is c.in_ok-writer.ensures.admitted)
     (subst (λ (a : Result Writer Reply). IfOk a (λ writer. IsStoredNumber writer.stored)) c.in-Ok.is c.in_ok-writer.ensures.stored)
     (subst (λ (o : Option Place). IfSome o (HasPlaceFor c.place_for.new.self asked.table asked.key.now)) c.in-Some.is c.in_ok-place.ensures.place))
-    (λ t m works counted.
+    (λ t m works.
     let store = last_store works.life in
     let serves = first.keeps store works.has.store.serves in
     let full = c.in_ok-place.ensures.full t store serves in
@@ -71,7 +71,7 @@ returns-in-Some g c =
     (subst (λ (a : Result Writer Reply). IfOk a (MayWrite m c.caller-caller.result.session call asked.table)) c.in-Ok.is
     (c.in_ok-writer.ensures.may t on.on m store call
     (caller_sees tells state counts c.args.session call old new c.caller-caller.result on.session on.xacts m works) c.asked_by-asked.ensures)))
-    (not_full_there state old m works counted asked.table asked.key.now (λ is. some_is_not_none c.in_ok-place.field-0 c.in-Some.place c.in-Some.is (full.1 is)))
+    (not_full_there state old m works asked.table asked.key.now (λ is. some_is_not_none c.in_ok-place.field-0 c.in-Some.place c.in-Some.is (full.1 is)))
     (subst (λ (o : Option Place). IfSome o (IsNextPlace (store.tables asked.table) asked.key.now)) c.in-Some.is (c.in_ok-place.ensures.next t store serves)))
 
 pub returns-in-None : goal.returns-in-None
@@ -88,7 +88,7 @@ returns-in-None g c =
     let second : Stays tells state counts c.may_write.new.site c.place_for.new.site c.may_write.new.held c.place_for.new.self =
     record { form = c.place_for.ensures.form; keeps = c.place_for.ensures.keeps; same = c.place_for.ensures.same; none_fell = c.place_for.ensures.none_fell } in
     found_refusal tells state counts c.args.session call old new refl (then_stays first second) _ refl
-    (λ t m works counted.
+    (λ t m works.
     let store = last_store works.life in
     let serves = first.keeps store works.has.store.serves in
     let full = c.in_ok-place.ensures.full t store serves in
@@ -96,4 +96,4 @@ returns-in-None g c =
     (subst (λ (a : Result Writer Reply). IfOk a (MayWrite m c.caller-caller.result.session call asked.table)) c.in-Ok.is
     (c.in_ok-writer.ensures.may t on.on m store call
     (caller_sees tells state counts c.args.session call old new c.caller-caller.result on.session on.xacts m works) c.asked_by-asked.ensures)) in
-    sym (may.full (full_there state old m works counted asked.table asked.key.now (full.0 (subst (λ (o : Option Place). IsNone o) (sym c.in-None.is) refl)))))
+    sym (may.full (full_there state old m works asked.table asked.key.now (full.0 (subst (λ (o : Option Place). IsNone o) (sym c.in-None.is) refl)))))

@@ -1,9 +1,9 @@
 use Rattle.std.proofs.Common.{false, refl, sym, ◌∙◌}
+use Rattle.std.specs.Prelude.{⊤}
 use Rattle.px_calls.specs.declared.call.Call.TheVariants.{Rollback}
 use Rattle.px_history.specs.Steps.{Step}
 use Rattle.px_site.proofs.Causes.{no_fall}
 use Rattle.px_core.specs.Errors.{kept_after}
-use Rattle.px_core.specs.Working.{CountsFor}
 use Rattle.px_core.specs.declared.state.Kept.{Kept}
 use Rattle.px_core.proofs.Appended.{Appends, Fails, fails_does, framed_does, had_room, stands_on}
 use Rattle.px_core.proofs.Ending.{EndsInMemory, empty_end_does, none_counted, rollback_commits, rollback_framed, rollback_logged, rollback_step, some_logged, unmoved}
@@ -14,7 +14,7 @@ pub returns-in_default : goal.returns-in_default
 returns-in_default g c =
     let old : Kept g.row.W.Denot = c.args.self.now in
     let new : Kept g.row.W.Denot = record old { active = c.end.new.self } in
-    empty_end_does g.W.Site.tells g.W.Site.state g.W.Site.counts c.args.session false old new c.end.result (λ m works. CountsFor Rollback m)
+    empty_end_does g.W.Site.tells g.W.Site.state g.W.Site.counts c.args.session false old new c.end.result (λ m works. ⊤)
     (record { reply_is = c.end.ensures.reply; active = c.end.ensures.active; xacts = c.end.ensures.xacts })
     (unmoved g.W.Site.tells g.W.Site.state old c.end.new.self) c.requires.well c.requires.whole
     (c.end.ensures.commits ∙ none_counted old.active c.args.session false (sym c.writer.ensures.is ∙ c.in_default.is)) no_fall
@@ -41,7 +41,7 @@ returns-in-Err g c =
       none_fell = c.append_end.ensures.none_fell;
     } in
     rw (c.after_log_error.ensures.keeps, c.after_log_error.ensures.answer)
-    (fails_does tells state counts c.args.session Rollback old new (λ m works. CountsFor Rollback m) c.requires.well error fails c.in-Err.ensures.room refl
+    (fails_does tells state counts c.args.session Rollback old new (λ m works. ⊤) c.requires.well error fails c.in-Err.ensures.room refl
     (λ t m works holds. some_logged _ (rollback_logged m c.args.session xn (c.in-Some.ensures.who m works.active)))
     (λ t m works holds. stands_on tells state c.args.session Rollback old new (Step.rollback xn) t m works
     (rollback_step state c.args.session xn old m works (c.in-Some.ensures.who m works.active))
@@ -65,9 +65,9 @@ returns g c =
       none_fell = c.append_end.ensures.none_fell;
     } in
     let ends : EndsInMemory c.args.session false old new c.end-2.result = record { reply_is = c.end-2.ensures.reply; active = c.end-2.ensures.active; xacts = c.end-2.ensures.xacts } in
-    framed_does tells state counts c.args.session Rollback old new (λ m works. CountsFor Rollback m) (Step.rollback xn) c.end-2.result appends c.requires.well c.requires.whole
+    framed_does tells state counts c.args.session Rollback old new (λ m works. ⊤) (Step.rollback xn) c.end-2.result appends c.requires.well c.requires.whole
     c.end-2.ensures.few
     (λ t m works holds. (
-      rollback_framed tells state counts c.args.session xn old new c.end-2.result (λ m works. CountsFor Rollback m) ends m works (c.in-Some.ensures.who m works.active),
+      rollback_framed tells state counts c.args.session xn old new c.end-2.result (λ m works. ⊤) ends m works (c.in-Some.ensures.who m works.active),
       rollback_commits m c.args.session,
     ))
