@@ -9,7 +9,7 @@ use std::process::ExitCode;
 use std::str::Lines;
 
 /// The most outcomes that are tried of one script: some seconds' work.
-const MOST_OUTCOMES: u64 = 5_000;
+const MOST_OUTCOMES: u64 = 10_000;
 
 /// Stops the run at each moment, tells a line for each, and then how it went.
 pub(crate) fn report(rt: &HostRuntime, trial: &Trial) -> anyhow::Result<ExitCode> {
