@@ -1,4 +1,4 @@
-use crate::files::{FIRST, FRAMES, LAST, LAST_FRAME, LOG, SAVED, SECOND, SECOND_FRAME, TIDY};
+use crate::files::{FIRST, FRAMES, LOG, SAVED, SECOND, SECOND_FRAME, TIDY};
 use crate::scripts::{Part, look_into, played};
 use crate::stores::{found, opened, store};
 use px_memsite::MemSite;
@@ -99,21 +99,6 @@ fn the_newer_restart_counts(rt: HostRuntime) -> Result<(), Fail> {
         let mut site = store(&rt, rt.alloc(), &[], log)?;
         site.put_file(SECOND, SAVED.as_slice())?;
         assert_eq!(rt; opened(rt.alloc(), &mut site), report);
-    }
-    Ok(())
-}
-
-#[test]
-fn a_log_without_a_number_left_takes_no_tidying(rt: HostRuntime) -> Result<(), Fail> {
-    let full = Err(OpenError::LogFull(281_474_976_710_656));
-    for (log, report) in [
-        (&[] as &[u8], found(0, 0, 0)),
-        (LAST_FRAME.as_slice(), full),
-    ] {
-        let mut site = store(&rt, rt.alloc(), &[], log)?;
-        site.put_file(FIRST, LAST.as_slice())?;
-        assert_eq!(rt; opened(rt.alloc(), &mut site), report);
-        assert_eq!(rt; site.content(LOG), log);
     }
     Ok(())
 }
