@@ -1,4 +1,4 @@
-// What a crash at one moment leaves, in every way in which the disk may keep what wasn't synced.
+// What a crash at one moment leaves, where the disk keeps a first part of what wasn't synced.
 
 use crate::calling::{Found, open};
 use crate::images::image;
@@ -7,6 +7,9 @@ use crate::trial::Trial;
 use px_memsite::{Keep, Pick};
 use std::alloc::{AllocError, Global};
 use std::collections::BTreeMap;
+
+/// By how many bytes a first part is longer than the one before.
+const STEP: u64 = 16;
 
 /// The outcomes that were tried so far.
 #[derive(Drop)]
@@ -39,7 +42,8 @@ impl Outcomes {
         let mut by_commits = Vec::new(self.alloc);
         by_commits.resize(trial.commits().saturating_add(1), 0u64)?;
         let loose = progress.loose();
-        for kept in 0..=loose {
+        for step in 0..count_of(loose) {
+            let kept = step.saturating_mul(STEP).min(loose);
             let keep = keep_of(kept, loose);
             let commits = self.try_one(trial, progress, Pick { moment, keep })?;
             if let Some(count) = by_commits.get_mut(commits as usize) {
@@ -47,7 +51,7 @@ impl Outcomes {
             }
         }
         let summary = summary(self.alloc, by_commits.as_slice())?;
-        let count = loose.saturating_add(1);
+        let count = count_of(loose);
         Ok(format!(in self.alloc; "{count:>8}  {summary}")?)
     }
 
@@ -70,6 +74,12 @@ impl Outcomes {
             None => Ok(0),
         }
     }
+}
+
+/// How many outcomes a moment has with so many bytes that aren't synced: none of them is left, each first part that is a step longer, and
+/// all.
+pub(crate) fn count_of(loose: u64) -> u64 {
+    loose.div_ceil(STEP).saturating_add(1)
 }
 
 /// The first so many bytes of those that aren't synced are kept: none, all, or some.

@@ -2,14 +2,14 @@
 
 use crate::change::Change;
 use crate::moments::Progress;
-use crate::outcomes::Outcomes;
+use crate::outcomes::{Outcomes, count_of};
 use crate::trial::Trial;
 use std::alloc::{AllocError, Global};
 use std::process::ExitCode;
 use std::str::Lines;
 
 /// The most outcomes that are tried of one script: some seconds' work.
-const MOST_OUTCOMES: u64 = 10_000;
+const MOST_OUTCOMES: u64 = 5_000;
 
 /// Stops the run at each moment, tells a line for each, and then how it went.
 pub(crate) fn report(rt: &HostRuntime, trial: &Trial) -> anyhow::Result<ExitCode> {
@@ -45,9 +45,9 @@ fn count_outcomes(alloc: Global, trial: &Trial) -> Result<u64, AllocError> {
     let mut count = 0u64;
     for change in trial.changes.iter() {
         progress.begin(change)?;
-        count = count.saturating_add(progress.loose()).saturating_add(1);
+        count = count.saturating_add(count_of(progress.loose()));
         progress.end(change);
-        count = count.saturating_add(progress.loose()).saturating_add(1);
+        count = count.saturating_add(count_of(progress.loose()));
     }
     Ok(count)
 }

@@ -10,8 +10,7 @@ use px_calls::Status;
 use px_memsite::{MemSite, Pick};
 use std::alloc::{AllocError, Global};
 
-/// The store on which a script is played: all the tables that there may be, and short bodies. Each write lays the cells of a whole
-/// slot, of which a crash may leave any front.
+/// The store on which a script is played: all the tables that there may be, and short bodies, since each write's frame has a whole slot.
 const MAKE: &str = "make 8 64";
 
 /// A script, and its run on a new store that nothing stopped.
