@@ -1,0 +1,14 @@
+//! Data logs: how a part of a long row stands in one, with its length, a sum, and the table and slot that it is of
+//! (docs/FORMATS.md, 'Part of a data log').
+//!
+//! - `part`: `part_header`, what stands in front of a part's bytes, and `check_part`, which reads a part.
+//! - `header`: the numbers in front of a part's bytes, and whether they fit the bytes behind them.
+//! - `laws`: what is written is read again, and bytes are read in one way.
+#![tactic(auto)]
+
+mod header;
+mod laws;
+mod part;
+
+pub use laws::{one_reading, read_is_written, written_is_read};
+pub use part::{HEADER_SIZE, LONGEST_PART, check_part, part_header};
