@@ -39,7 +39,7 @@ abbrev pub made_store : List Held → Store
 made_store made = record { tables = tables_of made; layouts = λ t. no_layout; done = λ xn. false; over = λ xn. false }
 
 has_made : (s : State) (held : HeldTables) (log : Log) → Serves s held (made_store held.tables) → All IsUnused held.tables → held.short ≡ 64
-    → length held.tables ≡ 1 → log.tables ≡ 1 → log.short ≡ 64 → log.frames ≤ 2 ^ 48 → HasStore (made_store held.tables) (opening s held log)
+    → length held.tables ≡ 2 → log.tables ≡ 2 → log.short ≡ 64 → log.frames ≤ 2 ^ 48 → HasStore (made_store held.tables) (opening s held log)
 has_made s held log serves none short count tables its_short room =
     let unused = none_used 1 held.tables none in
     record {
@@ -54,7 +54,7 @@ has_made s held log serves none short count tables its_short room =
     }
 
 pub has_after : (s : State) (new held : HeldTables) (log : Log) → new ≡ held → Serves s new (made_store held.tables) → All IsUnused held.tables
-    → held.short ≡ 64 → length held.tables ≡ 1 → log.tables ≡ 1 → log.short ≡ 64 → log.frames ≤ 2 ^ 48
+    → held.short ≡ 64 → length held.tables ≡ 2 → log.tables ≡ 2 → log.short ≡ 64 → log.frames ≤ 2 ^ 48
     → (store : Store) × HasStore store (opening s new log)
 has_after s new held log is serves none short count tables its_short room =
     let there = subst (λ (h : HeldTables). Serves s h (made_store held.tables)) is serves in

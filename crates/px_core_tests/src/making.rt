@@ -13,15 +13,16 @@ use px_held::Held;
 use px_log::open_log;
 use px_memsite::MemSite;
 use px_model::Session;
+use px_opened::{lay_all, open_tables};
 use px_restart::Restart;
 use px_tables::Table;
 use std::alloc::{AllocError, Global};
 use std::test::Fail;
 
-/// A new store with one table, whose slots hold bodies of up to 64 bytes.
+/// A new store with two tables, whose slots hold bodies of up to 64 bytes.
 const RESTART: Restart = Restart {
     serial: 1,
-    tables: 1,
+    tables: 2,
     short: 64,
     commits: 0,
     next: 1,
@@ -35,10 +36,11 @@ const RESTART: Restart = Restart {
 fn tables(alloc: Global) -> Result<Vec<Table>, AllocError>
     ensures numbered { IfOk result (λ tables. AreNumbered 64 tables.items) }
     ensures unused { IfOk result (λ tables. All (λ table. table.cells.header ≡ no_places) tables.items) }
-    ensures count { IfOk result (λ tables. length tables.items ≡ 1) }
+    ensures count { IfOk result (λ tables. length tables.items ≡ 2) }
 {
     let mut tables = Vec::new(alloc);
     tables.push(Table::new(alloc, 1, 64)?)?;
+    tables.push(Table::new(alloc, 2, 64)?)?;
     Ok(tables)
 }
 
@@ -73,4 +75,13 @@ pub(crate) fn kinds_in_log(alloc: Global, core: Core<MemSite>) -> Result<Vec<Cha
         kinds.push(change.kind)?;
     }
     Ok(kinds)
+}
+
+/// The cells that the log leaves, read over the site that the core leaves, are sound.
+pub(crate) fn survey(alloc: Global, core: Core<MemSite>) -> Result<(), Fail> {
+    let mut site = core.close();
+    let (_log, changes) = open_log(alloc, &mut site, &RESTART)?;
+    let laid = lay_all(alloc, changes.as_slice())?;
+    let _tables = open_tables(alloc, RESTART.tables, RESTART.short, &laid)?;
+    Ok(())
 }

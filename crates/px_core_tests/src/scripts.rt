@@ -103,7 +103,7 @@ const REFUSALS: &str = "
 a get 1 01 > no transaction
 a begin > began 1
 a begin > open already
-a get 2 01 > no table
+a get 3 01 > no table
 a update 1 01 0 aa > missing
 a insert 1 01 0 - > inserted
 a insert 1 01 0 aa > duplicate
@@ -160,5 +160,5 @@ a insert 1 6b32 8 - > inserted
 a commit > committed 2
 b begin > began 5
 b scan 1 > found 2 | at 6b31 7 616263 | at 6b32 8 -
-b get 2 6b31 > no table
+b get 3 6b31 > no table
 ";
