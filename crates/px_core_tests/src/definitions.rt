@@ -55,6 +55,11 @@ impl Definitions {
         self.wanted(&rows, None, None)
     }
 
+    /// The number of the transaction that begins next.
+    fn next(&self) -> Result<u64, Fail> {
+        Ok(self.begun.checked_add(1).ok_or("too many begins")?)
+    }
+
     fn open_of(&self, session: Session) -> Option<&Open> {
         self.active.get(usize::from(session.index()))?.as_ref()
     }
@@ -107,7 +112,7 @@ impl Definitions {
     fn reply(&self, session: Session, call: &Call) -> Result<Reply, Fail> {
         let Some(open) = self.open_of(session) else {
             return Ok(match call {
-                Call::Begin => Reply::Began(self.begun + 1),
+                Call::Begin => Reply::Began(self.next()?),
                 _ => Reply::NoTransaction,
             });
         };
@@ -141,7 +146,8 @@ impl Definitions {
             return Ok(Reply::EndedEmpty);
         }
         let commits = self.ended.iter().filter(|ended| ended.committed).count();
-        Ok(Reply::Committed(u64::try_from(commits)? + 1))
+        let number = u64::try_from(commits)?.checked_add(1);
+        Ok(Reply::Committed(number.ok_or("too many commits")?))
     }
 
     fn read_reply(&self, open: &Open, call: &Call, table: u32, key: &Bytes) -> Result<Reply, Fail> {
@@ -156,7 +162,11 @@ impl Definitions {
         match call {
             Call::Hold { .. } if kept >= MOST_TICKETS => Ok(Reply::LimitTickets),
             Call::Hold { .. } if row.is_none() => Ok(Reply::Missing),
-            Call::Hold { .. } => Ok(Reply::Held(u32::try_from(kept)? + 1)),
+            Call::Hold { .. } => Ok(Reply::Held(
+                u32::try_from(kept)?
+                    .checked_add(1)
+                    .ok_or("too many tickets")?,
+            )),
             _ => Ok(row.map_or(Reply::NoRow, Reply::RowIs)),
         }
     }
@@ -274,7 +284,7 @@ impl Definitions {
     }
 
     fn begin(&mut self, session: Session) -> Result<(), Fail> {
-        self.begun += 1;
+        self.begun = self.next()?;
         let open = Open {
             number: self.begun,
             snap: u64::try_from(self.ended.len())?,

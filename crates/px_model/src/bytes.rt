@@ -1,12 +1,16 @@
 ghost use Rattle.std.specs.Prelude.{◌≡◌, [], ◌∷◌, ◌++◌, length, IfOk, OnOk, OnErr};
 
+use smallvec::SmallVec;
 use std::alloc::{AllocError, Global};
 use std::marker::Model;
 
-/// A key, a body or another list of bytes. Contracts see the list of their numbers.
+/// How many bytes are kept in place: most keys are no longer, and no header and no row pointer is.
+const BYTES_IN_PLACE: usize = 16;
+
+/// A key, a body or another list of bytes. Contracts see the list of their numbers. Up to 16 bytes take no memory.
 #[derive(Debug, Drop)]
 pub struct Bytes {
-    bytes: Vec<u8>,
+    bytes: SmallVec<u8, BYTES_IN_PLACE>,
 }
 
 impl Model for Bytes {
@@ -23,7 +27,7 @@ impl Bytes {
         ensures { result ≡ [] }
     {
         Bytes {
-            bytes: Vec::new(alloc),
+            bytes: SmallVec::new(alloc),
         }
     }
 
@@ -31,15 +35,9 @@ impl Bytes {
     pub fn from_vec(bytes: Vec<u8>) -> Bytes
         ensures { result ≡ bytes.items }
     {
-        Bytes { bytes }
-    }
-
-    /// The bytes as a `Vec`, which is not copied.
-    pub fn into_vec(self) -> Vec<u8>
-        ensures { result.items ≡ self }
-    {
-        let Bytes { bytes } = self;
-        bytes
+        Bytes {
+            bytes: SmallVec::from_vec(bytes),
+        }
     }
 
     pub fn as_slice(&self) -> &[u8]
@@ -52,7 +50,7 @@ impl Bytes {
     pub fn from_slice(alloc: Global, bytes: &[u8]) -> Result<Bytes, AllocError>
         ensures { IfOk result (λ copy. copy ≡ bytes.now) }
     {
-        let bytes = Vec::from_slice(alloc, bytes)?;
+        let bytes = SmallVec::from_slice(alloc, bytes)?;
         Ok(Bytes { bytes })
     }
 
