@@ -15,8 +15,8 @@ const SEEDS: [u64; 4] = [1, 20, 300, 4000];
 /// A store of two tables and six keys has no more rows.
 const MOST_ROWS: usize = 13;
 
-/// How many hundreds of calls each script has.
-const HUNDREDS: usize = 5;
+/// After how many calls of a script the cells are surveyed.
+const CALLS: [usize; 5] = [100, 200, 300, 400, 500];
 
 fn text_of(alloc: Global, reply: &Reply) -> Result<String, Fail> {
     let mut text = Vec::new(alloc);
@@ -61,12 +61,12 @@ fn name_of(row: &Row) -> Result<KeyOf, Fail> {
     })
 }
 
-/// The first calls of a script, so many hundreds. Behind them the rows are those of the definitions, and the cells sound.
-fn play(rt: &impl Abort, alloc: Global, seed: u64, hundreds: usize) -> Result<(), Fail> {
+/// The first calls of a script, so many. Behind them the rows are those of the definitions, and the cells sound.
+fn play(rt: &impl Abort, alloc: Global, seed: u64, calls: usize) -> Result<(), Fail> {
     let mut drawn = Drawn::of(seed);
     let mut definitions = Definitions::new(alloc)?;
     let mut core = new_core(alloc)?;
-    for _ in 0..hundreds * 100 {
+    for _ in 0..calls {
         call_once(rt, alloc, &mut core, &mut definitions, &mut drawn)?;
     }
     let want = text_of(alloc, &Reply::Rows(definitions.committed()?))?;
@@ -77,8 +77,8 @@ fn play(rt: &impl Abort, alloc: Global, seed: u64, hundreds: usize) -> Result<()
 
 /// The cells are surveyed after each hundredth call.
 fn play_hundreds(rt: &impl Abort, alloc: Global, seed: u64) -> Result<(), Fail> {
-    for hundreds in 1..=HUNDREDS {
-        play(rt, alloc, seed, hundreds)?;
+    for calls in CALLS {
+        play(rt, alloc, seed, calls)?;
     }
     Ok(())
 }
