@@ -1,4 +1,4 @@
-use Rattle.std.proofs.Common.{List, ℕ, sym, ap, ◌≢◌, ◌∙◌}
+use Rattle.std.proofs.Common.{List, ℕ, sym, ap, ◌∙◌}
 use Rattle.px_tables.specs.Keys.{row_named}
 use Rattle.px_tables.proofs.Names.{itself_named, others_named, seen}
 use Rattle.px_tables.proofs.keys.Keys.add.Goals as goal
