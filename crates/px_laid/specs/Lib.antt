@@ -3,3 +3,4 @@ pub mod Reading
 pub mod Whole
 pub mod Says
 pub mod Holds
+pub mod Numbered

@@ -1,26 +1,20 @@
 -- Which bytes lie at which place.
 use Rattle.std.specs.Prelude.{ℕ, Bool, ◌&&◌, ◌==◌, List, fold, Option, Some, None, if◌then◌else◌}
-use Rattle.std.specs.BTreeMap.{get}
-use Rattle.std.specs.Ordering.{nat_cmp, ordering_then}
-use Rattle.std.specs.declared.cmp.Ordering.{Ordering}
 use Rattle.px_cells.specs.declared.cell.Cell.{Cell}
 use Rattle.px_cells.specs.declared.cell.CellKind.{CellKind}
 use Rattle.px_cells.specs.declared.cell.CellKind.TheVariants.{Header, Slot, Pointer}
 use Rattle.px_change.specs.Grammar.{is_what}
 use Rattle.px_laid.specs.declared.laid.Laid.{Laid}
+use Rattle.px_laid.specs.Numbered.{bytes_in}
 
 -- the bytes of each cell that was laid
 abbrev pub Places : Type 0
 Places = CellKind → (table number : ℕ) → Option (List ℕ)
 
--- the order of the numbers of a table and of a cell
-abbrev pub number_cmp : ℕ × ℕ → ℕ × ℕ → Ordering
-number_cmp a b = ordering_then (nat_cmp a.0 b.0) (nat_cmp a.1 b.1)
-
 abbrev pub places : Laid → Places
-places laid Header table number = get number_cmp laid.headers (table, number)
-places laid Slot table number = get number_cmp laid.slots (table, number)
-places laid Pointer table number = get number_cmp laid.pointers (table, number)
+places laid Header table number = bytes_in laid.headers.items table number
+places laid Slot table number = bytes_in laid.slots.items table number
+places laid Pointer table number = bytes_in laid.pointers.items table number
 
 abbrev pub none_laid : Places
 none_laid what table number = None

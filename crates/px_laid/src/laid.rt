@@ -1,40 +1,38 @@
-ghost use Rattle.std.specs.Prelude.{◌≡◌, Some, IfOk, OnOk};
-ghost use Rattle.std.specs.BTreeMap.{Updates};
+ghost use Rattle.std.specs.Prelude.{◌≡◌, IfOk, OnOk};
 ghost use Rattle.std.specs.Option.{option_copied};
-ghost use Rattle.px_laid.specs.Places.{laid_over, none_laid, number_cmp, over, places};
+ghost use Rattle.px_laid.specs.Places.{laid_over, none_laid, over, places};
 
+use crate::numbered::{NumberedCells, put_in};
 use px_cells::{Cell, CellKind};
 use px_change::Change;
-use px_model::Bytes;
 use std::alloc::{AllocError, Global};
-use std::collections::BTreeMap;
 
-/// The bytes of cells, each at its place: its kind, the number of its table and its own. `specs/Places` has what contracts see,
-/// the bytes at each place.
+/// The bytes of cells, each at its place: its kind, the number of its table and its own. They are those of the changes, and
+/// none are copied. `specs/Places` has what contracts see, the bytes at each place.
 #[derive(Debug, Drop)]
-pub struct Laid {
-    // For each kind its cells, by the numbers of their table and their own.
-    headers: BTreeMap<(u8, u32), Bytes>,
-    slots: BTreeMap<(u8, u32), Bytes>,
-    pointers: BTreeMap<(u8, u32), Bytes>,
+pub struct Laid<'a> {
+    // For each kind its cells, those of a table at the table's number.
+    headers: Vec<NumberedCells<'a>>,
+    slots: Vec<NumberedCells<'a>>,
+    pointers: Vec<NumberedCells<'a>>,
 }
 
-impl Laid {
+impl<'a> Laid<'a> {
     /// Nothing is laid. It takes no memory.
-    pub fn new(alloc: Global) -> Laid
+    pub fn new(alloc: Global) -> Laid<'a>
         ensures { places result ≡ none_laid }
     {
         Laid {
-            headers: BTreeMap::new(alloc),
-            slots: BTreeMap::new(alloc),
-            pointers: BTreeMap::new(alloc),
+            headers: Vec::new(alloc),
+            slots: Vec::new(alloc),
+            pointers: Vec::new(alloc),
         }
     }
 
     /// The cells of a change lie over what was at their places, each over those before it. Without memory nothing comes back, so
     /// that no change is ever laid by half.
-    pub fn lay(self, change: &Change) -> Result<Laid, AllocError>
-        ensures { IfOk result (λ laid. places laid ≡ laid_over (places self) change.now.cells) }
+    pub fn lay(self, change: &'a Change) -> Result<Laid<'a>, AllocError>
+        ensures { IfOk result (λ laid. places laid ≡ laid_over (places self.entry) change.now.cells) }
     {
         let mut laid = self;
         for cell in change.cells.as_slice() {
@@ -43,7 +41,7 @@ impl Laid {
         Ok(laid)
     }
 
-    fn put(&mut self, cell: &Cell) -> Result<(), AllocError>
+    fn put(&mut self, cell: &'a Cell) -> Result<(), AllocError>
         ensures { OnOk result (places self.new ≡ over (places self.old) cell.now) }
     {
         match cell.what {
@@ -54,23 +52,15 @@ impl Laid {
     }
 
     /// The bytes at a place, None where no cell was laid. It takes no memory.
-    pub fn bytes(&self, what: CellKind, table: u8, number: u32) -> Option<&[u8]>
+    pub fn bytes(&self, what: CellKind, table: u8, number: u32) -> Option<&'a [u8]>
         ensures { option_copied result ≡ places self.now what table number }
     {
-        let cells = match what {
+        let tables = match what {
             CellKind::Header => &self.headers,
             CellKind::Slot => &self.slots,
             CellKind::Pointer => &self.pointers,
         };
-        let bytes = cells.get(&(table, number))?;
-        Some(bytes.as_slice())
+        let cells = tables.get(table as usize)?;
+        cells.bytes(number)
     }
-}
-
-// The cell lies in the map of its kind, over what was at its numbers.
-fn put_in(cells: &mut BTreeMap<(u8, u32), Bytes>, cell: &Cell) -> Result<(), AllocError>
-    ensures { OnOk result (Updates number_cmp cells.old cells.new (cell.now.table, cell.now.number) (Some cell.now.bytes)) }
-{
-    cells.insert((cell.table, cell.number), cell.bytes.copy()?)?;
-    Ok(())
 }

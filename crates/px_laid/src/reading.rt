@@ -13,7 +13,7 @@ use px_model::Bytes;
 use px_recs::{read_header, read_pointer, read_slot};
 use std::alloc::{AllocError, Global};
 
-impl Laid {
+impl Laid<'_> {
     /// What the bytes of the table's header say; one that isn't there says that no place was ever used. None exactly where the
     /// bytes are no header's. It takes no memory.
     pub fn header(&self, table: u8) -> Option<Header>

@@ -43,7 +43,7 @@ impl From<AllocError> for TableError {
     }
 }
 
-impl Laid {
+impl Laid<'_> {
     /// All cells of the table, in a store with that short length.
     ///
     /// A row pointer or a slot that the header counts and that was never laid is bad. A place is counted from the change on that

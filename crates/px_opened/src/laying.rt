@@ -7,7 +7,7 @@ use px_laid::Laid;
 use std::alloc::{AllocError, Global};
 
 /// The cells of all changes, each over those before it, where no cells lie below them. It fails only for want of memory.
-pub fn lay_all(alloc: Global, changes: &[Change]) -> Result<Laid, AllocError>
+pub fn lay_all<'a>(alloc: Global, changes: &'a [Change]) -> Result<Laid<'a>, AllocError>
     ensures { IfOk result (λ laid. places laid ≡ changes_over none_laid changes.now) }
 {
     let mut laid = Laid::new(alloc);

@@ -61,7 +61,7 @@ module _ {K : Type 0} (bytes : K → List ℕ) where
       (λ x y at. ap (λ m. is_eq (slice_cmp nat_cmp m (bytes y))) (same_bytes q (bytes x) at))
       (λ k at. ap (λ m. is_eq (slice_cmp nat_cmp q m)) (sym (same_bytes key (bytes k) at)) ∙ other)
 
-  abbrev seen : List (K × ℕ) → List (List ℕ × ℕ)
+  abbrev pub seen : List (K × ℕ) → List (List ℕ × ℕ)
   seen entries = map (λ (e : K × ℕ). (bytes e.0, e.1)) entries
 
   -- each other key names what it did

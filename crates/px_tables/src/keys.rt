@@ -87,8 +87,8 @@ impl Keys {
         ensures named { OnOk result (row_named self.new key.now ≡ row) }
         ensures others { OnOk result ((q : List ℕ) → q ≢ key.now → row_named self.new q ≡ row_named self.old q) }
     {
-        self.enter(alloc, key)?;
-        self.name(key, row);
+        let key = Vec::from_slice(alloc, key)?;
+        self.rows.insert(key, row)?;
         Ok(())
     }
 

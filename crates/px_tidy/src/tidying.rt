@@ -1,4 +1,4 @@
-ghost use Rattle.std.specs.Prelude.{◌≡◌, ◌<◌, ◌^◌, [], ◌∷◌, ◌++◌, None, Some, IfOk, MatchOption, OnOk, if◌then◌else◌, length, map};
+ghost use Rattle.std.specs.Prelude.{◌≡◌, ◌<◌, ◌≤◌, ◌^◌, ◌↔◌, IsTrue, [], ◌∷◌, ◌++◌, None, Some, IfOk, MatchOption, OnOk, if◌then◌else◌, length, map};
 ghost use Rattle.px_chain.specs.Places.{slot_before};
 ghost use Rattle.px_chain.specs.Sound.{IsUsedRow, Layout};
 ghost use Rattle.px_shown.specs.Tables.{slots_of_row};
@@ -22,8 +22,8 @@ pub struct Unneeded {
 }
 
 /// The versions of a row that go: all but the newest one that is done, and that one too where it is a deletion. The oldest
-/// comes first, and in this order they are to be unlinked, so that of each the slot in front is still there. It takes one walk
-/// along the chain, and fails only for want of memory.
+/// comes first, and in this order they are to be unlinked, so that of each the slot in front is still there. It takes no memory
+/// where the row's one version stays, and fails only for want of memory.
 pub fn versions_to_tidy(
     alloc: Global,
     table: &Table,
@@ -35,12 +35,25 @@ pub fn versions_to_tidy(
         → versions.items ≡ map (unneeded_at (layout.chain row)) (tidied_away (done_of done.now) (slots_of_row (table_of table.now.cells) layout row))) }
 {
     let kept = place_kept(table, row, done);
+    if kept == Some(0) && has_one_version(table, row) {
+        return Ok(Vec::new(alloc));
+    }
     let chain = table.slots_of(row)?;
     let mut versions = Vec::new(alloc);
     for place in (0..chain.len()).rev() {
         push_other(&mut versions, chain.as_slice(), place, kept)?;
     }
     Ok(versions)
+}
+
+/// Whether the row has one version, and not more.
+fn has_one_version(table: &Table, row: u32) -> bool
+    requires { IsUsedRow (table_of table.now.cells) row }
+    ensures { (layout : Layout) → HasLayout table.now.cells layout → (IsTrue result ↔ length (layout.chain row) ≤ 1) }
+{
+    let mut versions = table.versions(row);
+    let _newest = versions.next();
+    versions.next().is_none()
 }
 
 /// Appends the version at the place, where it isn't the one that stays.
