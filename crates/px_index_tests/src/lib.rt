@@ -1,0 +1,2 @@
+//! Tests of the entries in memory.
+#![tactic(auto)]
