@@ -18,7 +18,7 @@ pub record Version : Type 0 where
 
 abbrev pub has_tag : Option ℕ → (tag : ℕ) → Bool
 has_tag None tag = false
-has_tag (Some its) tag = its == tag
+has_tag (Some its) tag = tag == its
 
 -- the version has this key, or is a row with this tag
 abbrev pub is_under : Field → Version → Bool

@@ -1,7 +1,7 @@
-ghost use Rattle.std.specs.Prelude.{◌≡◌, List, [], not, IfOk, IfErr, OnOk, OnErr, IsOk};
+ghost use Rattle.std.specs.Prelude.{◌≡◌, List, [], not, IfOk, IfErr, OnOk, OnErr, IsOk, MatchOption};
 ghost use Rattle.px_site.specs.Cause.{NoneFell, no_counts};
 ghost use Rattle.px_index.specs.Errors.{HasReadCause, IsPassing};
-ghost use Rattle.px_index.specs.Listed.{IsInOrder, IsListed, IsNextFrom, has, with_entry, without_entry};
+ghost use Rattle.px_index.specs.Listed.{HasNoneFrom, IsLeastFrom, IsListed, IsNextFrom, has, with_entry, without_entry};
 ghost use Rattle.px_index.specs.declared.entry.Entry.{Entry};
 
 use crate::{Entries, EntriesError, Entry};
@@ -33,6 +33,14 @@ impl MemEntries {
         Ok(MemEntries {
             entries: BTreeSet::new(alloc),
         })
+    }
+
+    /// The least entry that isn't below this one.
+    fn least_from(&self, entry: &Entry) -> Option<&Entry>
+        ensures { MatchOption result (HasNoneFrom self.now entry.now) (λ found. IsLeastFrom self.now entry.now found.now) }
+    {
+        let mut from = self.entries.range((Bound::Included(entry), Bound::Unbounded));
+        from.next()
     }
 }
 
