@@ -1,15 +1,14 @@
 -- What the least entry from another one on says of slots and of keys.
-use Rattle.std.proofs.Common.{◌≡◌, ℕ, ◌≤◌, ◌==◌, Bool, true, false, List, Option, Some, None, refl, sym, ap, subst, ◌∙◌, arith}
+use Rattle.std.proofs.Common.{◌≡◌, ℕ, ◌==◌, Bool, true, false, List, Option, Some, None, refl, sym, ap, subst, ◌∙◌, arith}
 use Rattle.std.specs.Prelude.{if◌then◌else◌}
 use Rattle.std.specs.Ordering.{is_eq, is_gt, nat_cmp, ordering_then}
-use Rattle.std.specs.Cmp.{tied_itself, nat_cmp_total}
-use Rattle.std.specs.declared.cmp.Ordering.TheVariants.{Less, Equal, Greater}
-use Rattle.std.specs.Cmp.Lexicographic.{slice_cmp, nat_list_cmp_total}
-use Rattle.std.proofs.lemmas.Bool.{false≢true, true≢false}
+use Rattle.std.specs.Cmp.{nat_cmp_total}
+use Rattle.std.specs.declared.cmp.Ordering.TheVariants.{Equal, Greater}
+use Rattle.std.proofs.lemmas.Bool.{true≢false}
 use Rattle.std.proofs.lemmas.Map.Lookups.{exact_unsigned}
 use Rattle.std.proofs.lemmas.Map.Views.{exact_unsigned_eq}
 use Rattle.px_index.specs.Listed.{HasNoneFrom, IsLeastFrom, has}
-use Rattle.px_index.specs.Order.{IsUpTo, entry_cmp, place_cmp, same_place}
+use Rattle.px_index.specs.Order.{IsUpTo, place_cmp, same_place}
 use Rattle.px_index.specs.Walks.{HasNoKeyPast, HasNoSlotFrom, IsLeastKey, IsLeastSlot, IsNextKey, IsNextSlot, IsPast, entry_at, key_in, key_there, least_past, slot_there}
 use Rattle.px_index.specs.declared.entry.Entry.{Entry}
 use Rattle.px_index.specs.declared.field.Field.{Field}

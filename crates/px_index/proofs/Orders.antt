@@ -1,7 +1,6 @@
 -- How entries compare.
-use Rattle.std.proofs.Common.{◌≡◌, ℕ, ◌<◌, ◌≤◌, ◌==◌, Bool, true, false, cond, ◌&&◌, List, [], ◌∷◌, ◌++◌, Option, Some, None, refl, sym, ap, subst, ◌∙◌, arith}
-use Rattle.std.specs.Prelude.{⊤}
-use Rattle.std.specs.Ordering.{eq_by_cmp, is_eq, is_gt, is_lt, nat_cmp, ordering_reverse, ordering_then}
+use Rattle.std.proofs.Common.{◌≡◌, ℕ, ◌<◌, ◌≤◌, ◌==◌, true, false, ◌&&◌, List, [], ◌∷◌, ◌++◌, Option, Some, None, refl, sym, ap, ◌∙◌, arith}
+use Rattle.std.specs.Ordering.{is_eq, is_gt, is_lt, nat_cmp, ordering_reverse, ordering_then}
 use Rattle.std.specs.declared.cmp.Ordering.{Ordering}
 use Rattle.std.specs.declared.cmp.Ordering.TheVariants.{Less, Equal, Greater}
 use Rattle.std.specs.Cmp.{tied_itself}
@@ -10,7 +9,7 @@ use Rattle.std.proofs.lemmas.Bool.{false≢true, true≢false}
 use Rattle.std.proofs.lemmas.Bool.Decides.{nat_tests}
 use Rattle.std.proofs.lemmas.Cmp.{nat_cmp_total, ranked, by_ranked}
 use Rattle.std.proofs.lemmas.Map.Lookups.{exact_bytes, exact_unsigned}
-use Rattle.px_index.specs.Order.{IsUpTo, bytes_of, entry_cmp, entry_cmp_total, field_cmp, field_cmp_total, kind_of, place_cmp, place_cmp_total, same_entry, same_place, tag_of}
+use Rattle.px_index.specs.Order.{IsUpTo, entry_cmp, entry_cmp_total, field_cmp, place_cmp, place_cmp_total, same_entry}
 use Rattle.px_index.specs.Walks.{IsBefore, IsPast, entry_at, least_past}
 use Rattle.px_index.specs.declared.entry.Entry.{Entry}
 use Rattle.px_index.specs.declared.field.Field.{Field}

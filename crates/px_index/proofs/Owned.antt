@@ -1,5 +1,5 @@
 -- The entries of versions: what entries have after one comes or goes, and what is then found in them.
-use Rattle.std.proofs.Common.{◌≡◌, ℕ, ◌==◌, Bool, true, false, cond, not, ◌&&◌, ◌||◌, List, [], ◌∷◌, Option, Some, None, refl, sym, ap, subst, ◌∙◌}
+use Rattle.std.proofs.Common.{◌≡◌, ℕ, ◌==◌, Bool, true, false, cond, not, ◌&&◌, ◌||◌, List, [], ◌∷◌, Option, Some, None, refl, sym, ap, ◌∙◌}
 use Rattle.std.specs.List.{AllByRecursion, list_any}
 use Rattle.std.specs.List.Sorted.{IsStrictlySortedBy}
 use Rattle.std.specs.Ordering.{is_eq, match_ordering, nat_cmp, ordering_then}
@@ -11,13 +11,13 @@ use Rattle.std.proofs.lemmas.Bool.{false≢true, true≢false}
 use Rattle.std.proofs.lemmas.Map.Views.{exact_unsigned_eq}
 use Rattle.px_index.specs.Listed.{IsInOrder, has, with_entry, without_entry}
 use Rattle.px_index.specs.Order.{entry_cmp, entry_cmp_total, same_entry}
-use Rattle.px_index.specs.Versions.{AreEntries, HasFreeSlot, IsNextVersion, Version, has_tag, is_beside, is_entry_of, is_under, key_entry, with_tag, with_version, without_tag, without_version}
+use Rattle.px_index.specs.Versions.{AreEntries, HasFreeSlot, IsNextVersion, Version, is_beside, is_entry_of, is_under, key_entry, with_tag, with_version, without_tag, without_version}
 use Rattle.px_index.specs.Walks.{IsNextSlot, entry_at}
 use Rattle.px_index.specs.declared.entry.Entry.{Entry}
 use Rattle.px_index.specs.declared.field.Field.{Field}
 use Rattle.px_index.specs.declared.field.Field.TheVariants.{Key, Tag}
 use Rattle.px_index.proofs.Next.{isnt}
-use Rattle.px_index.proofs.Orders.{entry_exact, is_eq-nat, nat_itself, same_exact, same_itself, then_equal}
+use Rattle.px_index.proofs.Orders.{entry_exact, is_eq-nat, nat_itself, same_exact, then_equal}
 
 -- ---- what a list has after an entry was added, or taken out
 

@@ -1,5 +1,5 @@
 -- Entries as a list, and what calls do to it.
-use Rattle.std.specs.Prelude.{◌≡◌, Bool, true, false, List, Option, MatchOption}
+use Rattle.std.specs.Prelude.{◌≡◌, Bool, true, List, Option, MatchOption}
 use Rattle.std.specs.List.{list_any}
 use Rattle.std.specs.List.Sorted.{IsStrictlySortedBy}
 use Rattle.std.specs.BTreeSet.{insert_key}

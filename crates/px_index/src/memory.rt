@@ -69,10 +69,7 @@ impl Entries for MemEntries {
     }
 
     fn next_from(&mut self, entry: &Entry) -> Result<Option<Entry>, EntriesError> {
-        let mut from = self
-            .entries
-            .range((Bound::Included(entry), Bound::Unbounded));
-        match from.next() {
+        match self.least_from(entry) {
             Some(next) => Ok(Some(next.copy()?)),
             None => Ok(None),
         }
