@@ -9,7 +9,7 @@ use Rattle.std.proofs.lemmas.Map.Lookups.{exact_unsigned}
 use Rattle.std.proofs.lemmas.Map.Views.{exact_unsigned_eq}
 use Rattle.px_index.specs.Listed.{HasNoneFrom, IsLeastFrom, has}
 use Rattle.px_index.specs.Order.{IsUpTo, place_cmp, same_place}
-use Rattle.px_index.specs.Walks.{HasNoKeyPast, HasNoSlotFrom, IsLeastKey, IsLeastSlot, IsNextKey, IsNextSlot, IsPast, entry_at, key_in, key_there, least_past, slot_there}
+use Rattle.px_index.specs.Walks.{HasNonePast, IsLeastKey, IsLeastSlot, IsNextKey, IsNextSlot, IsPast, entry_at, has_at, has_key_at, key_in, key_there, least_past, slot_there, HasNoneFrom as NoSlotFrom}
 use Rattle.px_index.specs.declared.entry.Entry.{Entry}
 use Rattle.px_index.specs.declared.field.Field.{Field}
 use Rattle.px_index.specs.declared.field.Field.TheVariants.{Key, Tag}
@@ -22,13 +22,13 @@ isnt false f = refl
 
 -- ---- slots
 
-pub none_from : (entries : List Entry) (from : Entry) → HasNoneFrom entries from → HasNoSlotFrom entries from.table from.field from.slot
+pub none_from : (entries : List Entry) (from : Entry) → HasNoneFrom entries from → NoSlotFrom (has_at entries from.table from.field) from.slot
 none_from entries from none slot high =
     isnt (has entries (entry_at from.table from.field slot))
     (λ is. none (entry_at from.table from.field slot) is (up_to_beside from.table from.field from.slot slot high))
 
 least_slot : (entries : List Entry) (table : ℕ) (field : Field) (from slot : ℕ) → IsLeastFrom entries (entry_at table field from) (entry_at table field slot)
-    → IsLeastSlot entries table field from slot
+    → IsLeastSlot (has_at entries table field) from slot
 least_slot entries table field from slot found = record {
   is = found.is;
   not_below = beside_up_to table field from slot found.not_below;
@@ -60,13 +60,13 @@ probe table after = entry_at table (Key (least_past after)) 0
 from_probe : (table : ℕ) (after : Option (List ℕ)) (key : List ℕ) (slot : ℕ) → IsPast after key → IsUpTo (probe table after) (entry_at table (Key key) slot)
 from_probe table after key slot past = up_to_keys table (least_past after) key 0 slot (from_least after key past) (omega arith)
 
-pub none_past : (entries : List Entry) (table : ℕ) (after : Option (List ℕ)) → HasNoneFrom entries (probe table after) → HasNoKeyPast entries table after
+pub none_past : (entries : List Entry) (table : ℕ) (after : Option (List ℕ)) → HasNoneFrom entries (probe table after) → HasNonePast (has_key_at entries table) after
 none_past entries table after none key slot past =
     isnt (has entries (entry_at table (Key key) slot))
     (λ is. none (entry_at table (Key key) slot) is (from_probe table after key slot past))
 
 least_key : (entries : List Entry) (table : ℕ) (after : Option (List ℕ)) (key : List ℕ) (slot : ℕ)
-    → IsLeastFrom entries (probe table after) (entry_at table (Key key) slot) → IsLeastKey entries table after key slot
+    → IsLeastFrom entries (probe table after) (entry_at table (Key key) slot) → IsLeastKey (has_key_at entries table) after key slot
 least_key entries table after key slot found =
     let past = is_past after key (keys_up_to table (least_past after) key 0 slot found.not_below) in
     record {

@@ -1,5 +1,5 @@
 -- The entries of versions: what entries have after one comes or goes, and what is then found in them.
-use Rattle.std.proofs.Common.{◌≡◌, ℕ, ◌==◌, Bool, true, false, cond, not, ◌&&◌, ◌||◌, List, [], ◌∷◌, Option, Some, None, refl, sym, ap, ◌∙◌}
+use Rattle.std.proofs.Common.{subst, ◌≡◌, ℕ, ◌==◌, Bool, true, false, cond, not, ◌&&◌, ◌||◌, List, [], ◌∷◌, Option, Some, None, refl, sym, ap, ◌∙◌}
 use Rattle.std.specs.List.{AllByRecursion, list_any}
 use Rattle.std.specs.List.Sorted.{IsStrictlySortedBy}
 use Rattle.std.specs.Ordering.{is_eq, match_ordering, nat_cmp, ordering_then}
@@ -11,8 +11,8 @@ use Rattle.std.proofs.lemmas.Bool.{false≢true, true≢false}
 use Rattle.std.proofs.lemmas.Map.Views.{exact_unsigned_eq}
 use Rattle.px_index.specs.Listed.{IsInOrder, has, with_entry, without_entry}
 use Rattle.px_index.specs.Order.{entry_cmp, entry_cmp_total, same_entry}
-use Rattle.px_index.specs.Versions.{AreEntries, HasFreeSlot, IsNextVersion, Version, is_beside, is_entry_of, is_under, key_entry, with_tag, with_version, without_tag, without_version}
-use Rattle.px_index.specs.Walks.{IsNextSlot, entry_at}
+use Rattle.px_index.specs.Versions.{AreEntries, HasFreeSlot, IsNextVersion, IsNextVersionKey, Version, is_beside, is_entry_of, is_under, key_entry, with_tag, with_version, without_tag, without_version}
+use Rattle.px_index.specs.Walks.{IsFirstPast, IsNext, IsNextKey, IsNextSlot, entry_at}
 use Rattle.px_index.specs.declared.entry.Entry.{Entry}
 use Rattle.px_index.specs.declared.field.Field.{Field}
 use Rattle.px_index.specs.declared.field.Field.TheVariants.{Key, Tag}
@@ -67,7 +67,7 @@ stays_first : (first entry other : Entry) (behind : Bool) → same_entry entry f
     → (b || (not (same_entry other entry) && behind)) ≡ (not (same_entry other entry) && (b || behind))
 stays_first first entry other behind away true same =
     let apart : same_entry other entry ≡ false =
-        (eq_by_cmp_equiv entry_cmp_total).symm other entry ∙ ap (same_entry entry) (same_exact other first same) ∙ away in
+    (eq_by_cmp_equiv entry_cmp_total).symm other entry ∙ ap (same_entry entry) (same_exact other first same) ∙ away in
     and_true (not (same_entry other entry)) (sym (ap not apart))
 stays_first first entry other behind away false same = refl
 
@@ -247,9 +247,11 @@ one_less versions entries version sorted are free other =
 pub next_version : (versions : List Version) (entries : List Entry) (table : ℕ) (field : Field) (from : ℕ) (found : Option ℕ)
     → AreEntries versions entries → IsNextSlot entries table field from found → IsNextVersion versions table field from found
 unfolding AreEntries
-next_version versions entries table field from None are none = λ slot high. sym (are (entry_at table field slot)) ∙ none slot high
-next_version versions entries table field from (Some slot) are next = record {
-  is = sym (are (entry_at table field slot)) ∙ next.is;
-  not_below = next.not_below;
-  least = λ other high is. next.least other high (are (entry_at table field other) ∙ is);
-}
+next_version versions entries table field from found are next =
+    subst (λ (there : ℕ → Bool). IsNext there from found) (λ i slot. are (entry_at table field slot) i) next
+
+pub next_version_key : (versions : List Version) (entries : List Entry) (table : ℕ) (after : Option (List ℕ)) (found : Option (List ℕ × ℕ))
+    → AreEntries versions entries → IsNextKey entries table after found → IsNextVersionKey versions table after found
+unfolding AreEntries
+next_version_key versions entries table after found are next =
+    subst (λ (there : List ℕ → ℕ → Bool). IsFirstPast there after found) (λ i key slot. are (entry_at table (Key key) slot) i) next

@@ -1,10 +1,10 @@
 -- When entries are those of versions.
-use Rattle.std.specs.Prelude.{◌≡◌, ◌≤◌, ℕ, ◌==◌, ◌&&◌, Bool, true, false, List, Option, Some, None, MatchOption}
+use Rattle.std.specs.Prelude.{◌≡◌, ℕ, ◌==◌, ◌&&◌, Bool, false, List, Option, Some, None}
 use Rattle.std.specs.List.{list_any}
 use Rattle.std.specs.Cmp.Lexicographic.{slice_cmp}
 use Rattle.std.specs.Ordering.{is_eq, nat_cmp}
 use Rattle.px_index.specs.Listed.{has, with_entry, without_entry}
-use Rattle.px_index.specs.Walks.{entry_at}
+use Rattle.px_index.specs.Walks.{IsFirstPast, IsNext, entry_at}
 use Rattle.px_index.specs.declared.entry.Entry.{Entry}
 use Rattle.px_index.specs.declared.field.Field.{Field}
 use Rattle.px_index.specs.declared.field.Field.TheVariants.{Key, Tag}
@@ -61,23 +61,17 @@ is_beside version other = other.table == version.table && other.slot == version.
 abbrev pub HasFreeSlot : List Version → Version → Type 0
 HasFreeSlot versions version = list_any (is_beside version) versions ≡ false
 
--- ---- the slots of versions
+-- ---- what is found of versions
 
-abbrev pub is_version_at : (table : ℕ) → Field → (slot : ℕ) → Version → Bool
-is_version_at table field slot version = is_entry_of (entry_at table field slot) version
-
-abbrev pub has_version_at : List Version → (table : ℕ) → Field → (slot : ℕ) → Bool
-has_version_at versions table field slot = list_any (is_version_at table field slot) versions
-
-abbrev pub HasNoVersionFrom : List Version → (table : ℕ) → Field → (from : ℕ) → Type 0
-HasNoVersionFrom versions table field from = (slot : ℕ) → from ≤ slot → has_version_at versions table field slot ≡ false
-
--- the least slot from this one on in which a version of the table has this key, or this tag
-pub record IsLeastVersion (versions : List Version) (table : ℕ) (field : Field) (from slot : ℕ) : Type 0 where
-  pub is : has_version_at versions table field slot ≡ true
-  pub not_below : from ≤ slot
-  pub least : (other : ℕ) → from ≤ other → has_version_at versions table field other ≡ true → slot ≤ other
+-- a version of the table stands in the slot, and has this key or this tag
+abbrev pub has_version : List Version → (table : ℕ) → Field → (slot : ℕ) → Bool
+has_version versions table field slot = list_any (is_entry_of (entry_at table field slot)) versions
 
 abbrev pub IsNextVersion : List Version → (table : ℕ) → Field → (from : ℕ) → Option ℕ → Type 0
-IsNextVersion versions table field from found =
-    MatchOption found (HasNoVersionFrom versions table field from) (IsLeastVersion versions table field from)
+IsNextVersion versions table field from found = IsNext (has_version versions table field) from found
+
+abbrev pub has_version_of : List Version → (table : ℕ) → (key : List ℕ) (slot : ℕ) → Bool
+has_version_of versions table key slot = has_version versions table (Key key) slot
+
+abbrev pub IsNextVersionKey : List Version → (table : ℕ) → (after : Option (List ℕ)) → Option (List ℕ × ℕ) → Type 0
+IsNextVersionKey versions table after found = IsFirstPast (has_version_of versions table) after found

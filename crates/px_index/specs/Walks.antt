@@ -1,5 +1,5 @@
 -- What is found in entries: the next slot under a field, and the next key.
-use Rattle.std.specs.Prelude.{◌≡◌, ◌≤◌, ℕ, ◌==◌, true, false, List, [], ◌∷◌, ◌++◌, Option, Some, None, MatchOption, ⊤, if◌then◌else◌}
+use Rattle.std.specs.Prelude.{◌≡◌, ◌≤◌, ℕ, ◌==◌, Bool, true, false, List, [], ◌∷◌, ◌++◌, Option, Some, None, MatchOption, ⊤, if◌then◌else◌}
 use Rattle.std.specs.Cmp.Lexicographic.{slice_cmp}
 use Rattle.std.specs.Ordering.{nat_cmp}
 use Rattle.std.specs.declared.cmp.Ordering.TheVariants.{Less}
@@ -14,17 +14,24 @@ entry_at table field slot = record { table = table; field = field; slot = slot }
 
 -- ---- slots
 
-abbrev pub HasNoSlotFrom : List Entry → (table : ℕ) → Field → (from : ℕ) → Type 0
-HasNoSlotFrom entries table field from = (slot : ℕ) → from ≤ slot → has entries (entry_at table field slot) ≡ false
+abbrev pub HasNoneFrom : (there : ℕ → Bool) → (from : ℕ) → Type 0
+HasNoneFrom there from = (slot : ℕ) → from ≤ slot → there slot ≡ false
 
 -- the least slot from this one on
-pub record IsLeastSlot (entries : List Entry) (table : ℕ) (field : Field) (from slot : ℕ) : Type 0 where
-  pub is : has entries (entry_at table field slot) ≡ true
+pub record IsLeastSlot (there : ℕ → Bool) (from slot : ℕ) : Type 0 where
+  pub is : there slot ≡ true
   pub not_below : from ≤ slot
-  pub least : (other : ℕ) → from ≤ other → has entries (entry_at table field other) ≡ true → slot ≤ other
+  pub least : (other : ℕ) → from ≤ other → there other ≡ true → slot ≤ other
+
+abbrev pub IsNext : (there : ℕ → Bool) → (from : ℕ) → Option ℕ → Type 0
+IsNext there from found = MatchOption found (HasNoneFrom there from) (IsLeastSlot there from)
+
+-- the table has an entry of the field at the slot
+abbrev pub has_at : List Entry → (table : ℕ) → Field → (slot : ℕ) → Bool
+has_at entries table field slot = has entries (entry_at table field slot)
 
 abbrev pub IsNextSlot : List Entry → (table : ℕ) → Field → (from : ℕ) → Option ℕ → Type 0
-IsNextSlot entries table field from found = MatchOption found (HasNoSlotFrom entries table field from) (IsLeastSlot entries table field from)
+IsNextSlot entries table field from found = IsNext (has_at entries table field) from found
 
 -- ---- keys
 
@@ -36,18 +43,25 @@ abbrev pub IsPast : Option (List ℕ) → (key : List ℕ) → Type 0
 IsPast None key = ⊤
 IsPast (Some after) key = IsBefore after key
 
-abbrev pub HasNoKeyPast : List Entry → (table : ℕ) → (after : Option (List ℕ)) → Type 0
-HasNoKeyPast entries table after = (key : List ℕ) (slot : ℕ) → IsPast after key → has entries (entry_at table (Key key) slot) ≡ false
+abbrev pub HasNonePast : (there : List ℕ → ℕ → Bool) → (after : Option (List ℕ)) → Type 0
+HasNonePast there after = (key : List ℕ) (slot : ℕ) → IsPast after key → there key slot ≡ false
 
--- the least key past another one, and the least slot of its entries
-pub record IsLeastKey (entries : List Entry) (table : ℕ) (after : Option (List ℕ)) (key : List ℕ) (slot : ℕ) : Type 0 where
-  pub is : has entries (entry_at table (Key key) slot) ≡ true
+-- the least key past another one, and its least slot
+pub record IsLeastKey (there : List ℕ → ℕ → Bool) (after : Option (List ℕ)) (key : List ℕ) (slot : ℕ) : Type 0 where
+  pub is : there key slot ≡ true
   pub past : IsPast after key
-  pub least : (other : List ℕ) (at : ℕ) → IsPast after other → has entries (entry_at table (Key other) at) ≡ true → ¬ IsBefore other key
-  pub first : (at : ℕ) → has entries (entry_at table (Key key) at) ≡ true → slot ≤ at
+  pub least : (other : List ℕ) (at : ℕ) → IsPast after other → there other at ≡ true → ¬ IsBefore other key
+  pub first : (at : ℕ) → there key at ≡ true → slot ≤ at
+
+abbrev pub IsFirstPast : (there : List ℕ → ℕ → Bool) → (after : Option (List ℕ)) → Option (List ℕ × ℕ) → Type 0
+IsFirstPast there after found = MatchOption found (HasNonePast there after) (λ next. IsLeastKey there after next.0 next.1)
+
+-- the table has an entry of the key at the slot
+abbrev pub has_key_at : List Entry → (table : ℕ) → (key : List ℕ) (slot : ℕ) → Bool
+has_key_at entries table key slot = has entries (entry_at table (Key key) slot)
 
 abbrev pub IsNextKey : List Entry → (table : ℕ) → (after : Option (List ℕ)) → Option (List ℕ × ℕ) → Type 0
-IsNextKey entries table after found = MatchOption found (HasNoKeyPast entries table after) (λ next. IsLeastKey entries table after next.0 next.1)
+IsNextKey entries table after found = IsFirstPast (has_key_at entries table) after found
 
 -- ---- how they are found
 

@@ -1,10 +1,13 @@
 //! What the entries of versions become as a version is linked or unlinked, and which slots a walk of them meets.
 ghost use Rattle.std.specs.Prelude.{◌≡◌, ◌∷◌, ℕ, List, Option, true};
+ghost use Rattle.px_site.specs.Cause.{no_counts};
+ghost use Rattle.px_index.specs.Errors.{HasReadCause, IsPassing};
 ghost use Rattle.px_index.specs.Listed.{IsInOrder};
 ghost use Rattle.px_index.specs.Order.{same_entry};
-ghost use Rattle.px_index.specs.Versions.{AreEntries, HasFreeSlot, IsNextVersion, Version, with_version, without_version};
-ghost use Rattle.px_index.specs.Walks.{IsNextSlot};
+ghost use Rattle.px_index.specs.Versions.{AreEntries, HasFreeSlot, IsNextVersion, IsNextVersionKey, Version, with_version, without_version};
+ghost use Rattle.px_index.specs.Walks.{IsNextKey, IsNextSlot};
 ghost use Rattle.px_index.specs.declared.entry.Entry.{Entry};
+ghost use Rattle.px_index.specs.declared.error.EntriesError.{EntriesError};
 ghost use Rattle.px_index.specs.declared.field.Field.{Field};
 
 /// Entries that compare equal are one.
@@ -29,4 +32,17 @@ pub fn entries_of_one_less()
 pub fn a_walk_meets_the_versions()
     ensures { (versions : List Version) (entries : List Entry) (table : ℕ) (field : Field) (from : ℕ) (found : Option ℕ)
         → AreEntries versions entries → IsNextSlot entries table field from found → IsNextVersion versions table field from found }
+{}
+
+/// The next key is the least of a version past the other one, and the slot is the least of its versions: a walk meets the key of
+/// each version, in order, and no other one.
+pub fn a_walk_meets_the_keys()
+    ensures { (versions : List Version) (entries : List Entry) (table : ℕ) (after : Option (List ℕ)) (found : Option (List ℕ × ℕ))
+        → AreEntries versions entries → IsNextKey entries table after found → IsNextVersionKey versions table after found }
+{}
+
+/// Of the errors, entries in memory answer want of memory alone.
+pub fn only_memory_is_short_in_memory()
+    ensures { (error : EntriesError) → HasReadCause no_counts no_counts error
+        → IsPassing error → error ≡ EntriesError.OutOfMemory }
 {}

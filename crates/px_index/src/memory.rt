@@ -39,7 +39,9 @@ impl MemEntries {
     fn least_from(&self, entry: &Entry) -> Option<&Entry>
         ensures { MatchOption result (HasNoneFrom self.now entry.now) (λ found. IsLeastFrom self.now entry.now found.now) }
     {
-        let mut from = self.entries.range((Bound::Included(entry), Bound::Unbounded));
+        let mut from = self
+            .entries
+            .range((Bound::Included(entry), Bound::Unbounded));
         from.next()
     }
 }
