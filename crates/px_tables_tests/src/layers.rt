@@ -22,7 +22,7 @@ struct Case {
     table: &'static str,
 }
 
-const CASES: [Case; 10] = [
+const CASES: [Case; 12] = [
     // what isn't there was never used
     Case {
         log: &[&[Given(CellKind::Pointer, 2, 1, 8, &[(0, 1), (7, 1)])]],
@@ -163,6 +163,43 @@ const CASES: [Case; 10] = [
         reads: &[Read(CellKind::Slot, 1, 2, "0=3 -> none")],
         table: "0 row pointers, 1 slots",
     },
+    // the greatest number of all, and nothing else
+    Case {
+        log: &[&[Given(CellKind::Pointer, 1, 4_294_967_295, 8, &[(0, 1), (7, 1)])]],
+        reads: &[
+            Read(CellKind::Pointer, 1, 4_294_967_295, "0=1 7=1 -> used 1"),
+            Read(CellKind::Pointer, 1, 4_294_967_294, "-> free 0"),
+            Read(CellKind::Pointer, 1, 0, "-> free 0"),
+            Read(CellKind::Pointer, 1, 1, "-> free 0"),
+            Read(CellKind::Slot, 1, 4_294_967_295, "-> Free 0 0 0 0 [] []"),
+        ],
+        table: "0 row pointers, 0 slots",
+    },
+    // the fourth and the sixth are laid before those in front of them, and the sixth once more behind them
+    Case {
+        log: &[
+            &[Given(CellKind::Pointer, 1, 4, 8, &[(7, 4)])],
+            &[
+                Given(CellKind::Pointer, 1, 6, 8, &[(7, 6)]),
+                Given(CellKind::Pointer, 1, 1, 8, &[(7, 1)]),
+                Given(CellKind::Pointer, 1, 3, 8, &[(7, 3)]),
+            ],
+            &[
+                Given(CellKind::Pointer, 1, 5, 8, &[(7, 5)]),
+                Given(CellKind::Pointer, 1, 6, 8, &[(7, 7)]),
+            ],
+        ],
+        reads: &[
+            Read(CellKind::Pointer, 1, 1, "7=1 -> free 1"),
+            Read(CellKind::Pointer, 1, 2, "-> free 0"),
+            Read(CellKind::Pointer, 1, 3, "7=3 -> free 3"),
+            Read(CellKind::Pointer, 1, 4, "7=4 -> free 4"),
+            Read(CellKind::Pointer, 1, 5, "7=5 -> free 5"),
+            Read(CellKind::Pointer, 1, 6, "7=7 -> free 7"),
+            Read(CellKind::Pointer, 1, 7, "-> free 0"),
+        ],
+        table: "0 row pointers, 0 slots",
+    },
 ];
 
 fn cell_of(alloc: Global, given: &Given) -> Result<Cell, AllocError> {
@@ -202,7 +239,7 @@ fn log_of(alloc: Global, given: &[&[Given]]) -> Result<Vec<Change>, AllocError> 
     Ok(log)
 }
 
-fn header_text(alloc: Global, laid: &Laid, table: u8) -> Result<String, Fail> {
+fn header_text(alloc: Global, laid: &Laid<'_>, table: u8) -> Result<String, Fail> {
     let Some(header) = laid.header(table) else {
         return Ok(format!(in alloc; "none")?);
     };
@@ -212,7 +249,7 @@ fn header_text(alloc: Global, laid: &Laid, table: u8) -> Result<String, Fail> {
     )?)
 }
 
-fn pointer_text(alloc: Global, laid: &Laid, table: u8, number: u32) -> Result<String, Fail> {
+fn pointer_text(alloc: Global, laid: &Laid<'_>, table: u8, number: u32) -> Result<String, Fail> {
     let Some(pointer) = laid.pointer(table, number) else {
         return Ok(format!(in alloc; "none")?);
     };
@@ -220,7 +257,7 @@ fn pointer_text(alloc: Global, laid: &Laid, table: u8, number: u32) -> Result<St
     Ok(format!(in alloc; "{used} {}", pointer.head)?)
 }
 
-fn slot_text(alloc: Global, laid: &Laid, table: u8, number: u32) -> Result<String, Fail> {
+fn slot_text(alloc: Global, laid: &Laid<'_>, table: u8, number: u32) -> Result<String, Fail> {
     let Some(slot) = laid.slot(alloc, table, number, SHORT)? else {
         return Ok(format!(in alloc; "none")?);
     };
@@ -247,7 +284,7 @@ fn bytes_text(alloc: Global, bytes: &[u8]) -> Result<String, Fail> {
     Ok(text)
 }
 
-fn read_text(alloc: Global, laid: &Laid, read: &Read) -> Result<String, Fail> {
+fn read_text(alloc: Global, laid: &Laid<'_>, read: &Read) -> Result<String, Fail> {
     let Read(what, table, number, _) = read;
     let bytes = laid.bytes(*what, *table, *number).unwrap_or(&[]);
     let mut text = bytes_text(alloc, bytes)?;
@@ -256,7 +293,7 @@ fn read_text(alloc: Global, laid: &Laid, read: &Read) -> Result<String, Fail> {
     Ok(text)
 }
 
-fn value_text(alloc: Global, laid: &Laid, read: &Read) -> Result<String, Fail> {
+fn value_text(alloc: Global, laid: &Laid<'_>, read: &Read) -> Result<String, Fail> {
     let Read(what, table, number, _) = read;
     match what {
         CellKind::Header => header_text(alloc, laid, *table),
@@ -265,7 +302,7 @@ fn value_text(alloc: Global, laid: &Laid, read: &Read) -> Result<String, Fail> {
     }
 }
 
-fn table_text(alloc: Global, laid: &Laid) -> Result<String, Fail> {
+fn table_text(alloc: Global, laid: &Laid<'_>) -> Result<String, Fail> {
     match laid.table(alloc, 1, SHORT) {
         Ok(cells) => Ok(format!(in alloc;
             "{} row pointers, {} slots",

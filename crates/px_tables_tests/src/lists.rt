@@ -111,10 +111,14 @@ fn check(rt: &impl Abort, both: &Both) {
     }
 }
 
+fn made_of(alloc: Global, log: &[Change]) -> Result<ShortTable, Fail> {
+    let laid = laid(alloc, log)?;
+    opened(alloc, &laid)
+}
+
 /// The table is lost, and is made again of the changes.
 fn open_again(rt: &impl Abort, alloc: Global, both: &mut Both) -> Result<(), Fail> {
-    let laid = laid(alloc, both.log.as_slice())?;
-    let table = opened(alloc, &laid)?;
+    let table = made_of(alloc, both.log.as_slice())?;
     assert_eq!(rt; table.table.header(), both.table.table.header());
     both.table = table;
     check(rt, both);

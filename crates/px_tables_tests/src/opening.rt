@@ -7,7 +7,7 @@ use std::alloc::{AllocError, Global};
 use std::test::Fail;
 
 /// The cells of all changes, each over those before it.
-pub(crate) fn laid(alloc: Global, log: &[Change]) -> Result<Laid, AllocError> {
+pub(crate) fn laid(alloc: Global, log: &[Change]) -> Result<Laid<'_>, AllocError> {
     let mut laid = Laid::new(alloc);
     for change in log {
         laid = laid.lay(change)?;
@@ -16,7 +16,7 @@ pub(crate) fn laid(alloc: Global, log: &[Change]) -> Result<Laid, AllocError> {
 }
 
 /// The table that the laid cells say, as an opening makes it.
-pub(crate) fn opened(alloc: Global, laid: &Laid) -> Result<ShortTable, Fail> {
+pub(crate) fn opened(alloc: Global, laid: &Laid<'_>) -> Result<ShortTable, Fail> {
     let TableCells {
         header,
         pointers,
