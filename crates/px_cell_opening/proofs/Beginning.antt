@@ -40,8 +40,8 @@ use Rattle.px_site.specs.Names.{same_file}
 use Rattle.px_site.specs.State.{EachMoment, Moment, OnFile, Stands, State}
 use Rattle.px_site.specs.declared.name.FileName.{FileName}
 use Rattle.px_site.specs.declared.name.FileName.TheVariants.{Restart as RestartFile, Xlog}
-use Rattle.px_standing.specs.Standing.{Files}
-use Rattle.px_standing.specs.Stored.{ReadsImages}
+use Rattle.px_standing.specs.Files.{Files}
+use Rattle.px_standing.specs.Resting.{ReadsImages}
 use Rattle.px_tidying.proofs.Composing.{last_moment}
 use Rattle.px_tidying.specs.Opening.{HasLife, HasStore, LastsStill, LastsThrough, Opening, opening}
 use Rattle.px_working.specs.Follows.{last_store}

@@ -7,7 +7,7 @@ use Rattle.px_cells.specs.declared.cell.CellKind.{CellKind}
 use Rattle.px_filed.specs.Filed.{file_places}
 use Rattle.px_laid.specs.Places.{none_laid}
 use Rattle.px_recs.specs.Place.{place_of, size_of, table_file}
-use Rattle.px_standing.specs.Standing.{Files}
+use Rattle.px_standing.specs.Files.{Files}
 
 no_place : (short : ℕ) (files : Files) (what : CellKind) (table number : ℕ) → files (table_file what table) ≡ [] → file_places short files what table number ≡ None
 no_place short files what table number none =

@@ -15,7 +15,7 @@ use Rattle.px_opened.specs.Opened.{IsSameLayout, IsSameTable, Opens, changes_ove
 use Rattle.px_restart.specs.declared.restart.Restart.{Restart}
 use Rattle.px_shown.specs.Tables.{Layouts, Tables}
 use Rattle.px_site.specs.declared.name.FileName.{FileName}
-use Rattle.px_standing.specs.Standing.{Files}
+use Rattle.px_standing.specs.Files.{Files}
 use Rattle.px_tidying.specs.Numbers.{IsUnstoredIn}
 use Rattle.px_xlog.specs.Contents.{the_log}
 use Rattle.px_cell_opening.proofs.One.{no_log_damage, one_scan}

@@ -21,8 +21,8 @@ use Rattle.px_site.specs.Disk.{FileState, IsImage, at_rest}
 use Rattle.px_site.specs.State.{State}
 use Rattle.px_site.specs.declared.name.FileName.{FileName}
 use Rattle.px_site.specs.declared.name.FileName.TheVariants.{Restart as RestartFile}
-use Rattle.px_standing.specs.Standing.{Files}
-use Rattle.px_standing.specs.Stored.{ReadsImages}
+use Rattle.px_standing.specs.Files.{Files}
+use Rattle.px_standing.specs.Resting.{ReadsImages}
 use Rattle.px_xlog.specs.Contents.{the_log}
 use Rattle.px_cell_standing.proofs.One.{one_picked}
 use Rattle.px_cell_standing.proofs.Scanning.{last_from_segment, scan_alone}

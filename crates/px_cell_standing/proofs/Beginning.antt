@@ -17,8 +17,8 @@ use Rattle.px_shown.specs.Parts.{no_parts}
 use Rattle.px_site.specs.Disk.{at_rest}
 use Rattle.px_site.specs.State.{Moment, State}
 use Rattle.px_standing.specs.Images.{IsPlainImage}
-use Rattle.px_standing.specs.Standing.{Files}
-use Rattle.px_standing.specs.Stored.{ReadsImages}
+use Rattle.px_standing.specs.Files.{Files}
+use Rattle.px_standing.specs.Resting.{ReadsImages}
 use Rattle.px_tidy.specs.Steps.{tidying_tables}
 use Rattle.px_working.specs.Follows.{last_store, with_step}
 use Rattle.px_working.specs.Lasts.{IsValid, Lasts}

@@ -17,7 +17,7 @@ use Rattle.px_site.specs.State.{Moment, OnFile, with_file}
 use Rattle.px_site.specs.declared.name.FileName.{FileName}
 use Rattle.px_site.specs.declared.name.FileName.TheVariants.{Restart as RestartFile, Xlog}
 use Rattle.px_standing.specs.Images.{IsPlainImage, IsPlainRestart}
-use Rattle.px_standing.specs.Standing.{Files}
+use Rattle.px_standing.specs.Files.{Files}
 use Rattle.px_xlog.specs.Contents.{the_log}
 use Rattle.px_cell_standing.specs.Images.{ImagesStandFor, KeepsStanding}
 use Rattle.px_cell_standing.specs.Settled.{IsOneFile, KeepsOneFile}

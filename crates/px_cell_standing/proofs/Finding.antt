@@ -7,7 +7,7 @@ use Rattle.px_model.specs.declared.limits.TheConstants.{STORED_NUMBERS_END}
 use Rattle.px_model.specs.declared.row.Row.{Row}
 use Rattle.px_opened.specs.Opened.{changes_over}
 use Rattle.px_site.specs.declared.name.FileName.TheVariants.{Restart as RestartFile}
-use Rattle.px_standing.specs.Standing.{Files}
+use Rattle.px_standing.specs.Files.{Files}
 use Rattle.px_cell_standing.specs.Found.{Found, IsFound, IsReadIn, found_in}
 use Rattle.px_cell_standing.specs.Standing.{StandsFor}
 use Rattle.px_cell_standing.proofs.Next.{can_of, next_is, numbers_end}

@@ -36,8 +36,8 @@ use Rattle.px_site.specs.State.{Moment}
 use Rattle.px_site.specs.declared.name.FileName.{FileName}
 use Rattle.px_site.specs.declared.name.FileName.TheVariants.{Restart as RestartFile, Xlog}
 use Rattle.px_standing.specs.Images.{IsPlainImage}
-use Rattle.px_standing.specs.Standing.{Files}
-use Rattle.px_standing.specs.Stored.{ReadsImages}
+use Rattle.px_standing.specs.Files.{Files}
+use Rattle.px_standing.specs.Resting.{ReadsImages}
 use Rattle.px_tidying.specs.Opening.{HasLife, Opening}
 use Rattle.px_working.specs.Follows.{last_store}
 use Rattle.px_working.specs.Lasts.{HasBetween, IsOneSegment, IsValid, Lasts, LeavesFronts}

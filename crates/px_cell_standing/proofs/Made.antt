@@ -35,7 +35,7 @@ use Rattle.px_site.specs.Disk.{at_rest}
 use Rattle.px_site.specs.State.{Moment, State}
 use Rattle.px_site.specs.declared.name.FileName.TheVariants.{Rec, Restart as RestartFile, Row as RowFile, Xlog}
 use Rattle.px_standing.specs.Images.{IsPlainImage}
-use Rattle.px_standing.specs.Standing.{Files}
+use Rattle.px_standing.specs.Files.{Files}
 use Rattle.px_tidy.specs.Steps.{tidying_rows, tidying_table, tidying_tables}
 use Rattle.px_cell_standing.specs.Found.{Found, IsFound, found_in, store_of}
 use Rattle.px_cell_standing.specs.Settled.{HasNothing, IsAtRest, IsFromStart, IsOneFile, Settled}

@@ -21,7 +21,7 @@ use Rattle.px_restart.specs.Restart.{CanRestart, IsPicked}
 use Rattle.px_restart.specs.declared.restart.Restart.{Restart}
 use Rattle.px_shown.specs.Tables.{Layouts, Tables, slots_of_row}
 use Rattle.px_site.specs.declared.name.FileName.TheVariants.{Restart as RestartFile}
-use Rattle.px_standing.specs.Standing.{Files}
+use Rattle.px_standing.specs.Files.{Files}
 
 -- ---- least numbers
 

@@ -33,7 +33,7 @@ use Rattle.px_shown.specs.Parts.{Parts, no_parts}
 use Rattle.px_shown.specs.Shown.{Done, Shows}
 use Rattle.px_shown.specs.Tables.{Layouts, Tables}
 use Rattle.px_site.specs.declared.name.FileName.TheVariants.{Restart as RestartFile}
-use Rattle.px_standing.specs.Standing.{Files}
+use Rattle.px_standing.specs.Files.{Files}
 use Rattle.px_tidy.specs.Steps.{tidying_tables}
 use Rattle.px_cell_standing.specs.Found.{Found, IsFound, IsReadIn, found_in}
 use Rattle.px_cell_standing.specs.Standing.{StandsFor}

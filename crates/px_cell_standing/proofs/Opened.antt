@@ -25,7 +25,7 @@ use Rattle.px_restart.specs.declared.restart.Restart.{Restart}
 use Rattle.px_shown.proofs.Changes.{unlink_stays_sound}
 use Rattle.px_shown.specs.Parts.{no_parts}
 use Rattle.px_shown.specs.Tables.{AreSound}
-use Rattle.px_standing.specs.Standing.{Files}
+use Rattle.px_standing.specs.Files.{Files}
 use Rattle.px_tidy.specs.Kept.{tidied_away}
 use Rattle.px_tidy.specs.Steps.{tidying_row, tidying_rows, tidying_table, tidying_tables}
 use Rattle.px_working.specs.Follows.{last_store, with_step}

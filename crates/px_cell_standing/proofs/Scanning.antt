@@ -7,7 +7,7 @@ use Rattle.px_restart.specs.declared.restart.Restart.{Restart}
 use Rattle.px_scan.specs.Scan.{frames_of, frames_within}
 use Rattle.px_scan.specs.Segments.{is_full}
 use Rattle.px_site.specs.declared.name.FileName.TheVariants.{Xlog}
-use Rattle.px_standing.specs.Standing.{Files}
+use Rattle.px_standing.specs.Files.{Files}
 
 none_behind : (most : ℕ) (files : Files) (number : ℕ) → files (Xlog 2) ≡ [] → scan_from most files 2 number ≡ []
 unfolding frames_of frames_within

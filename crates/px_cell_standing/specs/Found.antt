@@ -14,7 +14,7 @@ use Rattle.px_restart.specs.declared.restart.Restart.{Restart}
 use Rattle.px_shown.specs.Parts.{no_parts}
 use Rattle.px_shown.specs.Shown.{Shows}
 use Rattle.px_site.specs.State.{Moment, State}
-use Rattle.px_standing.specs.Standing.{Files}
+use Rattle.px_standing.specs.Files.{Files}
 use Rattle.px_tidy.specs.Steps.{tidying_tables}
 use Rattle.px_working.specs.Follows.{last_store}
 use Rattle.px_cell_standing.specs.Settled.{HasEmptyTables, IsAlone, Settled}

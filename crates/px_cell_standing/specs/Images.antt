@@ -10,7 +10,7 @@ use Rattle.px_site.specs.State.{Moment, State}
 use Rattle.px_site.specs.declared.name.FileName.{FileName}
 use Rattle.px_site.specs.declared.name.FileName.TheVariants.{Restart as RestartFile}
 use Rattle.px_standing.specs.Images.{IsPlainImage, LeavesOthers}
-use Rattle.px_standing.specs.Standing.{Files, HasNoRestart}
+use Rattle.px_standing.specs.Files.{Files, HasNoRestart}
 use Rattle.px_working.specs.Lasts as working
 use Rattle.px_cell_standing.specs.Standing.{StandsFor}
 

@@ -11,7 +11,7 @@ use Rattle.px_site.specs.State.{Moment, State}
 use Rattle.px_site.specs.declared.name.FileName.{FileName}
 use Rattle.px_site.specs.declared.name.FileName.TheVariants.{Xlog}
 use Rattle.px_standing.specs.Images.{IsPlainImage}
-use Rattle.px_standing.specs.Standing.{Files, first_restart, second_restart}
+use Rattle.px_standing.specs.Files.{Files, first_restart, second_restart}
 use Rattle.px_xlog.specs.Contents.{the_log}
 use Rattle.px_xlog.specs.Written.{IsBehind}
 use Rattle.px_cell_standing.specs.Images.{ImagesStandFor}

@@ -20,7 +20,7 @@ ghost use Rattle.px_restart.specs.declared.restart.Restart.{Restart};
 ghost use Rattle.px_shown.specs.Parts.{Parts};
 ghost use Rattle.px_site.specs.State.{Moment};
 ghost use Rattle.px_standing.specs.Images.{LeavesOthers};
-ghost use Rattle.px_standing.specs.Standing.{Files};
+ghost use Rattle.px_standing.specs.Files.{Files};
 ghost use Rattle.px_working.specs.Follows.{last_store, with_step};
 ghost use Rattle.px_working.specs.Lasts.{Lasts};
 ghost use Rattle.px_working.specs.Works.{Works};

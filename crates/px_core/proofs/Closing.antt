@@ -11,7 +11,7 @@ use Rattle.px_reached.proofs.Standing.{reachable_stands}
 use Rattle.px_shown.proofs.Showing.{alike_shown}
 use Rattle.px_site.specs.State.{State}
 use Rattle.px_standing.specs.Images.{IsPlainImage}
-use Rattle.px_standing.specs.Stored.{ReadsImages}
+use Rattle.px_standing.specs.Resting.{ReadsImages}
 use Rattle.px_working.proofs.Log.{log_kept}
 use Rattle.px_working.proofs.Moments.{crash_leaves}
 use Rattle.px_core.specs.Core.{opening_of}

@@ -75,3 +75,18 @@ fn a_crash_leaves_the_durable_changes_and_whole_ones_behind_them(
     }
     Ok(())
 }
+
+#[test]
+fn a_whole_frame_behind_a_torn_one_is_cut(rt: HostRuntime) -> Result<(), Fail> {
+    let alloc = rt.alloc();
+    let mut site = played(&rt, alloc)?;
+    let mut bytes = Vec::from_slice(alloc, site.content(LOG))?;
+    assert_eq!(rt; bytes.len(), SIZES[2]);
+    // the sum of the first of the two frames
+    bytes[7] ^= 1;
+    site.put_file(LOG, &bytes)?;
+    let (log, changes) = open_log(alloc, &mut site, &RESTART)?;
+    assert_eq!(rt; (log.frames(), changes.as_slice().len()), (0, 0));
+    assert_eq!(rt; site.content(LOG).len(), 0);
+    Ok(())
+}

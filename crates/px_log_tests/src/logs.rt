@@ -44,6 +44,16 @@ pub fn first_commit(alloc: Global) -> Change {
     }
 }
 
+/// The rollback of that transaction.
+pub fn rollback_of(alloc: Global, xn: u64) -> Change {
+    Change {
+        kind: ChangeKind::Rollback,
+        xn,
+        commit: 0,
+        cells: CellList::new(alloc),
+    }
+}
+
 /// A Put of transaction 2 in that table, whose cells have nothing but bytes 7.
 pub fn put_in(alloc: Global, table: u8) -> Result<Change, AllocError> {
     let mut cells = CellList::new(alloc);

@@ -1,4 +1,3 @@
-pub mod Fitting
 pub mod Growing
 pub mod Logged
 pub mod Recounting

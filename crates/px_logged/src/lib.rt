@@ -1,16 +1,12 @@
 //! What the calls of sessions add to the transaction log, without a site.
 //!
 //! `laws` say that what the calls add to the log is what they did to the machine, so that the log alone has the commits
-//! and the rows; that it may stand there; that a front of the log with each commit has the same rows; and that what was
-//! published stays.
+//! and the rows; and that what was published stays.
 //!
-//! The definitions: `specs/Logged` what a call adds; `specs/Recounting` when a log tells what a machine did;
-//! `specs/Fitting` when it may hold what the machine's calls add; `specs/Growing` what calls leave as it was. `proofs/Adding` has what each call adds as an equation.
+//! The definitions: `specs/Logged` what a call adds; `specs/Recounting` when a log tells what a machine did; `specs/Growing` what
+//! calls leave as it was. `proofs/Adding` has what each call adds as an equation.
 #![tactic(auto)]
 
 mod laws;
 
-pub use laws::{
-    calls_add_what_may_stand, calls_add_what_they_did, what_may_stand_is_bounded,
-    what_opens_is_its_log, what_was_published_stays,
-};
+pub use laws::{calls_add_what_they_did, what_opens_is_its_log, what_was_published_stays};

@@ -16,7 +16,7 @@ use Rattle.px_calls.specs.Texts.{reply_text}
 use Rattle.px_script.specs.Lines.{open_line}
 use Rattle.px_logged.proofs.Grown.{opening_stays, commits_rise, published_stays}
 use Rattle.px_cell_standing.specs.Standing.{StandsFor}
-use Rattle.px_standing.specs.Standing.{Files}
+use Rattle.px_standing.specs.Files.{Files}
 use Rattle.px_cell_standing.specs.Images.{HasBetween, HasCommitted, StandsBetween}
 use Rattle.px_standing.specs.Images.{IsPlainImage, acked}
 use Rattle.px_play.specs.Acknowledged.{acknowledged, HoldsAcknowledged, KeepsAcknowledged}

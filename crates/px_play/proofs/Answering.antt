@@ -21,7 +21,7 @@ use Rattle.px_told.specs.declared.change.Change.{Change}
 use Rattle.px_log.specs.Log.{most_frames}
 use Rattle.px_logged.specs.Logged.{put_of, end_of, logged_when_done, logged}
 use Rattle.px_cell_standing.specs.Images.{StandsBetween}
-use Rattle.px_standing.proofs.Standing.{last_moment}
+use Rattle.px_standing.proofs.Moments.{last_moment}
 use Rattle.px_core.specs.declared.error.CoreError.{CoreError}
 use Rattle.px_core.specs.declared.error.CoreError.TheVariants.{OutOfMemory as CoreShort, Fault as FaultOf, LogFull as FullAt, Damaged as DamagedAt, Broken}
 use Rattle.px_core.specs.Core.{MayMeet, OnlyCommit, frames_of}

@@ -7,7 +7,7 @@ use Rattle.px_model.specs.Machine.{Machine, commits, published}
 use Rattle.px_script.specs.Lines.{complete_lines, open_line}
 use Rattle.px_script.specs.Words.{number_of}
 use Rattle.px_cell_standing.specs.Standing.{StandsFor}
-use Rattle.px_standing.specs.Standing.{Files}
+use Rattle.px_standing.specs.Files.{Files}
 use Rattle.px_standing.specs.Images.{IsPlainImage}
 
 -- the number in a line `committed n`

@@ -10,7 +10,7 @@ use Rattle.px_restart.specs.declared.restart.Restart.{Restart}
 use Rattle.px_scan.specs.Scan.{frames_of}
 use Rattle.px_scan.specs.Segments.{is_full}
 use Rattle.px_site.specs.declared.name.FileName.TheVariants.{Xlog}
-use Rattle.px_standing.specs.Standing.{Files}
+use Rattle.px_standing.specs.Files.{Files}
 
 module _ (a b : Files) (logs : (segment : ℕ) → a (Xlog segment) ≡ b (Xlog segment)) where
   from_alike : (most segment number : ℕ) → scan_from most a segment number ≡ scan_from most b segment number

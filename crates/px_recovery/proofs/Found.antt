@@ -15,7 +15,7 @@ use Rattle.px_shown.specs.Parts.{no_parts}
 use Rattle.px_shown.specs.Shown.{Shows}
 use Rattle.px_shown.specs.Tables.{Layouts, Tables}
 use Rattle.px_site.specs.State.{State}
-use Rattle.px_standing.specs.Standing.{Files, first_restart, second_restart}
+use Rattle.px_standing.specs.Files.{Files, first_restart, second_restart}
 use Rattle.px_xlog.specs.Contents.{the_log}
 use Rattle.px_cell_opening.proofs.One.{one_scan}
 use Rattle.px_cell_opening.proofs.Standing.{IsBeside, Says, finds_by, says_of}

@@ -9,7 +9,7 @@ use Rattle.px_restart.specs.declared.text.TheConstants.{VERSION}
 use Rattle.px_restart.specs.Restart.{CanRestart, RestartAt, IsPicked, restart_text}
 use Rattle.px_restart.proofs.Restarts.{length-text}
 use Rattle.px_xlog.specs.Written.{HasAt}
-use Rattle.px_standing.specs.Standing.{Files, HasNoRestart, first_restart, second_restart}
+use Rattle.px_standing.specs.Files.{Files, HasNoRestart, first_restart, second_restart}
 
 pub has_text : (content : List ℕ) (restart : Restart) → RestartAt content restart → HasAt content 0 (restart_text VERSION restart)
 has_text content restart at =

@@ -24,7 +24,7 @@ use Rattle.px_xlog.proofs.AtRest.{image_of_rest}
 use Rattle.px_standing.specs.Images.{IsPlainRestart, IsPlainImage}
 use Rattle.px_cell_standing.specs.Images.{ImagesAreNew, CanMake}
 use Rattle.px_cell_standing.specs.Settled.{Settled}
-use Rattle.px_standing.specs.Standing.{Files, HasNoRestart}
+use Rattle.px_standing.specs.Files.{Files, HasNoRestart}
 use Rattle.px_cell_standing.specs.Standing.{StandsFor}
 use Rattle.px_recovery.specs.Making.{first_file, second_file, first_saved, with_restart, IsFree, IsWritten, NewSettles, NewStands, WritesFirstFile, StaysNew}
 use Rattle.px_recovery.proofs.Alike.{last_alike, places_alike, scanned_alike}

@@ -16,7 +16,7 @@ use Rattle.px_restart.specs.Restart.{CanRestart, RestartAt, restart_text}
 use Rattle.px_xlog.proofs.AtRest.{image_of_rest}
 use Rattle.px_cell_standing.specs.Images.{CanMake}
 use Rattle.px_cell_standing.specs.Settled.{HasNothing, Settled}
-use Rattle.px_standing.specs.Standing.{Files}
+use Rattle.px_standing.specs.Files.{Files}
 use Rattle.px_cell_standing.specs.Standing.{StandsFor}
 use Rattle.px_recovery.specs.Making.{first_file, second_file, first_saved, with_restart, IsFree, IsWritten, NewSettles, NewStands}
 use Rattle.px_recovery.proofs.Fronts.{is_text}

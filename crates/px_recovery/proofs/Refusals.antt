@@ -10,7 +10,7 @@ use Rattle.px_site.specs.Cause.{Counts, NoneFell, Rose}
 use Rattle.px_site.specs.State.{State}
 use Rattle.px_site.specs.declared.error.Fault as faults
 use Rattle.px_site.specs.declared.error.Fault.TheVariants.{Read, Tell}
-use Rattle.px_standing.specs.Standing.{Files, HasNoRestart, first_restart, second_restart}
+use Rattle.px_standing.specs.Files.{Files, HasNoRestart, first_restart, second_restart}
 use Rattle.px_xlog.specs.Contents.{the_log}
 use Rattle.px_cell_opening.specs.Errors.{HasCellsCause, HasNoRoom, IsDamage, IsFileFault, LeavesDamaged}
 use Rattle.px_cell_opening.specs.Errors as cell

@@ -4,8 +4,8 @@ use Rattle.px_model.specs.declared.row.Row.{Row}
 use Rattle.px_restart.specs.Restart.{IsPicked}
 use Rattle.px_restart.specs.declared.restart.Restart.{Restart}
 use Rattle.px_site.specs.State.{State}
-use Rattle.px_standing.specs.Standing.{first_restart, second_restart}
-use Rattle.px_standing.specs.Stored.{RestartsRest}
+use Rattle.px_standing.specs.Files.{first_restart, second_restart}
+use Rattle.px_standing.specs.Resting.{RestartsRest}
 use Rattle.px_cell_opening.specs.Opened.{MayOpen}
 use Rattle.px_cell_standing.specs.Settled.{IsAlone}
 use Rattle.px_cell_standing.specs.Standing.{StandsFor}

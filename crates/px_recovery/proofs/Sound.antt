@@ -15,7 +15,7 @@ use Rattle.px_restart.specs.Restart.{IsPicked}
 use Rattle.px_restart.specs.declared.restart.Restart.{Restart}
 use Rattle.px_shown.specs.Tables.{Layouts, Tables}
 use Rattle.px_site.specs.declared.name.FileName.{FileName}
-use Rattle.px_standing.specs.Standing.{Files, first_restart, second_restart}
+use Rattle.px_standing.specs.Files.{Files, first_restart, second_restart}
 use Rattle.px_tidying.specs.Numbers.{IsUnstoredIn}
 use Rattle.px_xlog.specs.Contents.{the_log}
 use Rattle.px_cell_opening.proofs.One.{no_log_damage, one_scan}

@@ -12,7 +12,7 @@ use Rattle.px_site.specs.declared.error.SiteError.{SiteError}
 use Rattle.px_site.specs.State.{State, EachMoment, Syncs, synced}
 use Rattle.px_site.proofs.Moments.{sync_moments}
 use Rattle.px_model.specs.declared.row.Row.{Row}
-use Rattle.px_standing.specs.Stored.{RestartsRest}
+use Rattle.px_standing.specs.Resting.{RestartsRest}
 use Rattle.px_cell_standing.specs.Images.{KeepsStanding}
 use Rattle.px_cell_standing.specs.Settled.{IsAlone, Settled}
 use Rattle.px_recovery.specs.Making.{first_file, second_file}

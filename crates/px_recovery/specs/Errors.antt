@@ -14,7 +14,7 @@ use Rattle.px_log.specs.Log.{most_frames}
 use Rattle.px_restart.specs.declared.restart.Restart.{Restart}
 use Rattle.px_restart.specs.Restart.{IsPicked}
 use Rattle.px_xlog.specs.Contents.{the_log}
-use Rattle.px_standing.specs.Standing.{Files, HasNoRestart, first_restart, second_restart}
+use Rattle.px_standing.specs.Files.{Files, HasNoRestart, first_restart, second_restart}
 use Rattle.px_cell_standing.specs.Found.{Found}
 use Rattle.px_cell_opening.specs.Errors.{HasNoRoom, IsDamage}
 use Rattle.px_cell_opening.specs.declared.error.CellsError.{CellsError}

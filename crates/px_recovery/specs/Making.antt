@@ -9,7 +9,7 @@ use Rattle.px_restart.specs.declared.restart.Restart.{Restart}
 use Rattle.px_restart.specs.declared.text.TheConstants.{VERSION}
 use Rattle.px_restart.specs.Restart.{IsPicked, restart_text}
 use Rattle.px_cell_standing.specs.Images.{ImagesAreNew}
-use Rattle.px_standing.specs.Standing.{Files, HasNoRestart, first_restart, second_restart}
+use Rattle.px_standing.specs.Files.{Files, HasNoRestart, first_restart, second_restart}
 use Rattle.px_cell_standing.specs.Settled.{HasNothing, IsAtRest, Settled}
 use Rattle.px_cell_standing.specs.Standing.{StandsFor}
 

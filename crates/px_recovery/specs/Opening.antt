@@ -17,7 +17,7 @@ use Rattle.px_restart.specs.declared.restart.Restart.{Restart}
 use Rattle.px_shown.specs.Tables.{Layouts, Tables}
 use Rattle.px_site.specs.State.{Moment, State}
 use Rattle.px_model.specs.declared.row.Row.{Row}
-use Rattle.px_standing.specs.Standing.{Files, first_restart, second_restart}
+use Rattle.px_standing.specs.Files.{Files, first_restart, second_restart}
 use Rattle.px_tidying.specs.Opening.{Opening}
 use Rattle.px_xlog.specs.Contents.{the_log}
 use Rattle.px_cell_standing.specs.Found.{Found, IsFound, machine_of}

@@ -6,7 +6,7 @@ ghost use Rattle.px_model.specs.declared.row.Row.{Row};
 ghost use Rattle.px_cell_standing.specs.Found.{Found, IsFoundOn};
 ghost use Rattle.px_cell_standing.specs.Images.{KeepsStanding};
 ghost use Rattle.px_cell_standing.specs.Settled.{Settled};
-ghost use Rattle.px_standing.specs.Standing.{HasNoRestart};
+ghost use Rattle.px_standing.specs.Files.{HasNoRestart};
 ghost use Rattle.px_recovery.specs.Errors.{CountsFault, FindsNoRoom, HasRefusal, IsAbsence, IsPassing, KeepsContent, SaysNothing};
 ghost use Rattle.px_recovery.specs.Opening.{BeginsWith, OpensAs, OpensTo, TellsNothing, core_of, site_after};
 ghost use Rattle.px_active.specs.Active.{IsActiveOf};

@@ -6,8 +6,8 @@ ghost use Rattle.px_model.specs.declared.row.Row.{Row};
 ghost use Rattle.px_restart.specs.Restart.{CanRestart, IsPicked};
 ghost use Rattle.px_cell_standing.specs.Images.{KeepsStanding};
 ghost use Rattle.px_cell_standing.specs.Settled.{IsAlone, Settled};
-ghost use Rattle.px_standing.specs.Standing.{HasNoRestart, first_restart, second_restart};
-ghost use Rattle.px_standing.specs.Stored.{RestartsRest};
+ghost use Rattle.px_standing.specs.Files.{HasNoRestart, first_restart, second_restart};
+ghost use Rattle.px_standing.specs.Resting.{RestartsRest};
 ghost use Rattle.px_recovery.specs.Errors.{IsOfFile};
 ghost use Rattle.px_recovery.specs.Opening.{TellsNothing};
 

@@ -3,7 +3,7 @@ use Rattle.std.proofs.Common.{◌≡◌, subst}
 use Rattle.px_site.specs.declared.name.FileName.{FileName}
 use Rattle.px_site.specs.Disk.{FileState}
 use Rattle.px_site.specs.State.{Moment, State}
-use Rattle.px_standing.specs.Standing.{Files}
+use Rattle.px_standing.specs.Files.{Files}
 use Rattle.px_cell_standing.specs.Found.{Found, IsFoundOn, IsSettledStore}
 use Rattle.px_cell_standing.specs.Images.{ImagesAreNew}
 use Rattle.px_cell_standing.proofs.Resting.{image_is_one}

@@ -17,7 +17,7 @@ use Rattle.px_script.specs.Lines.{complete_after, rest_after, complete_lines, op
 use Rattle.px_restart.proofs.Restarts.{restart_long}
 use Rattle.px_logged.specs.Logged.{logged, logged_by_all}
 use Rattle.px_cell_standing.specs.Found.{Found, machine_of}
-use Rattle.px_standing.specs.Standing.{Files, first_restart, second_restart}
+use Rattle.px_standing.specs.Files.{Files, first_restart, second_restart}
 use Rattle.px_recovery.specs.Making.{IsFree, first_file, second_file}
 use Rattle.px_play.specs.Input.{AreCommands, EndsAt, EndsInput, IsFirstBad, IsOverlong, script_of}
 use Rattle.px_play.specs.Playing.{StopsFull}

@@ -17,7 +17,7 @@ use Rattle.px_calls.specs.Closing.{closing_line}
 use Rattle.px_calls.specs.Texts.{numbered, reply_text}
 use Rattle.px_script.specs.Lines.{open_line}
 use Rattle.px_cell_standing.specs.Found.{Found, IsSettledStore, machine_of}
-use Rattle.px_standing.proofs.Standing.{last_moment}
+use Rattle.px_standing.proofs.Moments.{last_moment}
 use Rattle.px_play.specs.Acknowledged.{KeepsAcknowledged, acknowledged}
 use Rattle.px_play.specs.Input.{script_of}
 use Rattle.px_play.specs.Playing.{pieces_of, replies_of}

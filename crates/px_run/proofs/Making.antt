@@ -13,7 +13,7 @@ use Rattle.px_calls.specs.declared.status.Status.TheVariants.{Done, OutOfMemory,
 use Rattle.px_calls.specs.Texts.{made_line}
 use Rattle.px_cell_standing.specs.Images.{CanMake, ImagesAreNew}
 use Rattle.px_cell_standing.specs.Settled.{Settled}
-use Rattle.px_standing.proofs.Standing.{last_moment}
+use Rattle.px_standing.proofs.Moments.{last_moment}
 use Rattle.px_recovery.specs.declared.error.MakeError.{MakeError}
 use Rattle.px_recovery.specs.declared.error.MakeError.TheVariants.{OutOfMemory as MakeShort, Fault as MakeFault, NotEmpty as MakeUsed}
 use Rattle.px_recovery.specs.Errors.{HasMakeCause, MakesFileFault, LeavesUnmade, status_of_make}

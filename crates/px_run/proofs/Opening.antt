@@ -5,7 +5,7 @@ use Rattle.px_site.specs.Cause.{Counts}
 use Rattle.px_site.specs.declared.name.FileName.{FileName}
 use Rattle.px_calls.specs.declared.status.Status.{Status}
 use Rattle.px_calls.specs.declared.status.Status.TheVariants.{Usage, NoStore, Damaged}
-use Rattle.px_standing.specs.Standing.{Files, HasNoRestart}
+use Rattle.px_standing.specs.Files.{Files, HasNoRestart}
 use Rattle.px_recovery.specs.declared.error.OpenError.{OpenError}
 use Rattle.px_recovery.specs.declared.error.OpenError.TheVariants.{OutOfMemory as OpenShort, Fault as OpenFault, NoStore as OpenNone, LogFull as OpenFull, Damaged as OpenDamaged}
 use Rattle.px_recovery.specs.declared.opening.OpenReport.{OpenReport}

@@ -9,7 +9,7 @@ use Rattle.px_calls.specs.Texts.{numbered, opened_line}
 use Rattle.px_script.specs.Lines.{complete_lines}
 use Rattle.px_logged.specs.Recounting.{rows_now}
 use Rattle.px_cell_standing.specs.Standing.{StandsFor}
-use Rattle.px_standing.specs.Standing.{Files}
+use Rattle.px_standing.specs.Files.{Files}
 use Rattle.px_cell_standing.specs.Images.{HasCommitted, KeepsStanding}
 use Rattle.px_standing.specs.Images.{IsPlainImage}
 use Rattle.px_cell_standing.specs.Found.{Found, machine_of}

@@ -9,7 +9,7 @@ use Rattle.px_calls.specs.declared.status.Status.{Status}
 use Rattle.px_calls.specs.declared.status.Status.TheVariants.{Done, Usage, BadLine, NoStore, NotEmpty, Damaged, DiskFault, SourceFault, OutputFault, OutOfMemory, LogFull, TooLong}
 use Rattle.px_site.specs.declared.name.FileName.{FileName}
 use Rattle.px_log.specs.Log.{most_frames}
-use Rattle.px_standing.specs.Standing.{Files, HasNoRestart}
+use Rattle.px_standing.specs.Files.{Files, HasNoRestart}
 use Rattle.px_recovery.specs.declared.error.OpenError.TheVariants.{Damaged as DamagedAt}
 use Rattle.px_recovery.specs.Errors.{HasRefusal}
 use Rattle.px_run.specs.declared.command.Command.{Command}

@@ -9,7 +9,7 @@ use Rattle.px_script.specs.Lines.{lines_at_end}
 use Rattle.px_script.specs.Progress.{longest_input}
 use Rattle.px_log.specs.Log.{most_frames}
 use Rattle.px_cell_standing.specs.Found.{Found, machine_of}
-use Rattle.px_standing.specs.Standing.{Files}
+use Rattle.px_standing.specs.Files.{Files}
 use Rattle.px_play.specs.Input.{AreCommands, script_of}
 use Rattle.px_play.specs.Playing.{frames_after}
 

@@ -1,6 +1,3 @@
-pub mod Examples
-pub mod Found
+pub mod Files
 pub mod Images
-pub mod Settled
-pub mod Standing
-pub mod Stored
+pub mod Resting

@@ -1,15 +1,1 @@
-pub mod Appending
-pub mod Appends
 pub mod AtRest
-pub mod CutMoments
-pub mod Cuts
-pub mod FramesOfChanges
-pub mod Growing
-pub mod Held
-pub mod LogReading
-pub mod MayHold
-pub mod OneChange
-pub mod Payloads
-pub mod Refusals
-pub mod Windows
-pub mod Writes

@@ -1,45 +1,7 @@
--- What the bytes of the log are: the frames of its changes, and where they are damaged.
-use Rattle.std.specs.Prelude.{◌≡◌, ◌≢◌, ◌⊎◌, ℕ, ◌<◌, ◌≤◌, true, List, ◌∷◌, ◌++◌, length, map}
+-- Which file the log is.
 use Rattle.px_site.specs.declared.name.FileName.{FileName}
 use Rattle.px_site.specs.declared.name.FileName.TheVariants.{Xlog}
-use Rattle.px_told.specs.declared.change.Change.{Change}
-use Rattle.px_restart.specs.declared.restart.Restart.{Restart}
-use Rattle.px_scan.specs.Scan.{frames, frames_of}
-use Rattle.px_xlog.specs.Payload.{change_text, may_hold, may_hold_all}
 
--- until there are segments, the log is one file, and its frames are numbered from 0
+-- until there are segments, the log is one file
 abbrev pub the_log : FileName
 the_log = Xlog 1
-
--- the bytes of frames of these changes
-unfoldable pub log_text : List Change → List ℕ
-log_text changes = frames 0 (map change_text changes)
-
--- the log's frames are these changes, each in a frame that may hold it, and no durable one is missing
-pub record Scans (restart : Restart) (bytes : List ℕ) (changes : List Change) : Type 0 where
-  pub scanned : frames_of bytes 0 ≡ map change_text changes
-  pub held : may_hold_all restart.tables 0 changes ≡ true
-  pub reached : restart.durable ≤ length changes
-
--- ---- where the log is damaged
-
--- a frame that checks behind these changes holds none
-pub record HoldsNone (tables : ℕ) (bytes : List ℕ) (place : ℕ) : Type 0 where
-  pub before : List Change
-  pub payload : List ℕ
-  pub others : List (List ℕ)
-  pub scanned : frames_of bytes 0 ≡ map change_text before ++ payload ∷ others
-  pub held : may_hold_all tables 0 before ≡ true
-  pub none : (change : Change) → may_hold tables (length before) change ≡ true → payload ≢ change_text change
-  pub at : place ≡ length (log_text before)
-
--- all frames hold changes, and they end before those that were durable
-pub record StopsShort (tables durable : ℕ) (bytes : List ℕ) (place : ℕ) : Type 0 where
-  pub before : List Change
-  pub scanned : frames_of bytes 0 ≡ map change_text before
-  pub held : may_hold_all tables 0 before ≡ true
-  pub below : length before < durable
-  pub at : place ≡ length (log_text before)
-
-abbrev pub IsDamage : Restart → List ℕ → ℕ → Type 0
-IsDamage restart bytes place = HoldsNone restart.tables bytes place ⊎ StopsShort restart.tables restart.durable bytes place

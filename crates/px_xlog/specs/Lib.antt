@@ -1,10 +1,2 @@
 pub mod Contents
-pub mod Entry
-pub mod Errors
-pub mod Examples
-pub mod Fields
-pub mod Log
-pub mod Payload
-pub mod Scanning
-pub mod Window
 pub mod Written

@@ -1,5 +1,5 @@
 use Rattle.std.proofs.Common.{ap, ◌∙◌}
-use Rattle.px_standing.specs.Standing.{Files}
+use Rattle.px_standing.specs.Files.{Files}
 use Rattle.px_recovery.proofs.Contents.{change_others, sync_content}
 use Rattle.px_recovery.proofs.NewMoments.{writing_moments, syncing_moments}
 use Rattle.px_recovery.proofs.making.write_restart.Goals as goal

@@ -1,10 +1,10 @@
-ghost use Rattle.std.specs.Prelude.{◌≤◌};
+ghost use Rattle.std.specs.Prelude.{◌≡◌};
 
-use crate::logs::{LOG, RESTART, append_rollback, append_row};
+use crate::logs::{LOG, RESTART, append, put_in, rollback_of};
+use px_change::{Change, ChangeKind};
+use px_log::{LogError, Xlog, open_log};
 use px_memsite::{Failure, Keep, MemSite, Pick};
 use px_site::Fault;
-use px_told::Change;
-use px_xlog::{LogError, Xlog, open_log};
 use std::alloc::Global;
 use std::process::Abort;
 use std::test::Fail;
@@ -14,7 +14,7 @@ use std::test::Fail;
 type Row = (u64, u64, Fault, usize, usize);
 
 /// How many bytes the log has with none of the changes, with the first of them, and so on.
-const SIZES: [usize; 5] = [0, 44, 78, 112, 146];
+const SIZES: [usize; 5] = [0, 246, 280, 314, 348];
 
 const KEEPS: [Keep; 5] = [
     Keep::Synced,
@@ -30,7 +30,7 @@ fn given_up(rt: &impl Abort, alloc: Global, row: Row) -> Result<MemSite, Fail> {
     let mut site = MemSite::failing_partway(alloc, &[Failure { call, bytes }])?;
     let (mut log, _changes) = open_log(alloc, &mut site, &RESTART)?;
     assert_eq!(rt;
-        append_all(alloc, &mut log, &mut site),
+        append_all(rt, alloc, &mut log, &mut site),
         Err(LogError::Fault(fault))
     );
     assert_eq!(rt; log.durable(), durable as u64);
@@ -38,15 +38,21 @@ fn given_up(rt: &impl Abort, alloc: Global, row: Row) -> Result<MemSite, Fail> {
 }
 
 /// The calls 3 to 8 of the site, with two moments each, from 5 on: a write, a sync, two writes, a sync and a write.
-fn append_all(alloc: Global, log: &mut Xlog, site: &mut MemSite) -> Result<(), LogError>
-    requires { 1 ≤ log.old.tables }
+fn append_all(
+    rt: &impl Abort,
+    alloc: Global,
+    log: &mut Xlog,
+    site: &mut MemSite,
+) -> Result<(), LogError>
+    requires tables { log.old.tables ≡ 1 }
+    requires short { log.old.short ≡ 64 }
 {
-    append_row(alloc, log, site, 1)?;
+    append(rt, log, site, &put_in(alloc, 1)?)?;
     log.flush(site)?;
-    append_rollback(log, site, 1)?;
-    append_rollback(log, site, 2)?;
+    append(rt, log, site, &rollback_of(alloc, 1))?;
+    append(rt, log, site, &rollback_of(alloc, 2))?;
     log.flush(site)?;
-    append_rollback(log, site, 3)?;
+    append(rt, log, site, &rollback_of(alloc, 3))?;
     Ok(())
 }
 
@@ -77,11 +83,11 @@ fn reopened(rt: &impl Abort, alloc: Global, site: MemSite) -> Result<usize, Fail
 }
 
 fn is_appended(at: usize, change: &Change) -> bool {
-    match (at, change) {
-        (0, Change::Put { xn: 1, .. }) => true,
-        (1, Change::Rollback { xn: 1 }) => true,
-        (2, Change::Rollback { xn: 2 }) => true,
-        (3, Change::Rollback { xn: 3 }) => true,
+    match (at, change.kind, change.xn) {
+        (0, ChangeKind::Put, 2) => true,
+        (1, ChangeKind::Rollback, 1) => true,
+        (2, ChangeKind::Rollback, 2) => true,
+        (3, ChangeKind::Rollback, 3) => true,
         _ => false,
     }
 }
@@ -113,10 +119,10 @@ fn stopped_at(rt: &impl Abort, alloc: Global, row: Row, moment: u64) -> Result<(
 #[test]
 fn a_log_that_is_given_up_is_read_as_a_front(rt: HostRuntime) -> Result<(), Fail> {
     let table: [Row; 12] = [
-        // the first append, of a frame of 44 bytes
+        // the first append, of a frame of 246 bytes
         (3, 0, Fault::Write, 0, 0),
         (3, 7, Fault::Write, 0, 0),
-        (3, 44, Fault::Write, 0, 1),
+        (3, 246, Fault::Write, 0, 1),
         // the first flush
         (4, 0, Fault::Sync, 0, 1),
         // the two appends behind it, of frames of 34 bytes
