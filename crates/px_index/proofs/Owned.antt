@@ -1,5 +1,5 @@
 -- The entries of versions: what entries have after one comes or goes, and what is then found in them.
-use Rattle.std.proofs.Common.{subst, ◌≡◌, ℕ, ◌==◌, Bool, true, false, cond, not, ◌&&◌, ◌||◌, List, [], ◌∷◌, Option, Some, None, refl, sym, ap, ◌∙◌}
+use Rattle.std.proofs.Common.{subst, ◌≡◌, ℕ, ◌==◌, Bool, true, false, cond, not, ◌&&◌, ◌||◌, List, [], ◌∷◌, ◌++◌, Option, Some, None, refl, sym, ap, ◌∙◌}
 use Rattle.std.specs.List.{AllByRecursion, list_any}
 use Rattle.std.specs.List.Sorted.{IsStrictlySortedBy}
 use Rattle.std.specs.Ordering.{is_eq, match_ordering, nat_cmp, ordering_then}
@@ -165,6 +165,28 @@ under table (Tag other) slot its_table key (Some tag) its_slot =
 
 either : (entry : Entry) (version : Version) → (is_tag_of entry version version.tag || same_entry entry (key_entry version)) ≡ is_entry_of entry version
 either entry version = under entry.table entry.field entry.slot version.table version.key version.tag version.slot
+
+-- ---- in any order
+
+any_turn : (test : Version → Bool) (front : List Version) (version : Version) (behind : List Version)
+    → list_any test (front ++ version ∷ behind) ≡ (test version || list_any test (front ++ behind))
+any_turn test [] version behind = refl
+any_turn test (first ∷ front) version behind =
+    ap (λ b. test first || b) (any_turn test front version behind) ∙ or_turn (test first) (test version) (list_any test (front ++ behind))
+
+pub none : AreEntries [] []
+unfolding AreEntries
+none entry = refl
+
+pub to_front : (front behind : List Version) (entries : List Entry) (version : Version) → AreEntries (front ++ version ∷ behind) entries
+    → AreEntries (version ∷ front ++ behind) entries
+unfolding AreEntries
+to_front front behind entries version are entry = are entry ∙ any_turn (is_entry_of entry) front version behind
+
+pub from_front : (front behind : List Version) (entries : List Entry) (version : Version) → AreEntries (version ∷ front ++ behind) entries
+    → AreEntries (front ++ version ∷ behind) entries
+unfolding AreEntries
+from_front front behind entries version are entry = are entry ∙ sym (any_turn (is_entry_of entry) front version behind)
 
 -- ---- one more version
 

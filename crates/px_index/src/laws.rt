@@ -1,5 +1,5 @@
 //! What the entries of versions become as a version is linked or unlinked, and which slots a walk of them meets.
-ghost use Rattle.std.specs.Prelude.{◌≡◌, ◌∷◌, ℕ, List, Option, true};
+ghost use Rattle.std.specs.Prelude.{◌≡◌, [], ◌∷◌, ◌++◌, ℕ, List, Option, true};
 ghost use Rattle.px_site.specs.Cause.{no_counts};
 ghost use Rattle.px_index.specs.Errors.{HasReadCause, IsPassing};
 ghost use Rattle.px_index.specs.Listed.{IsInOrder};
@@ -13,6 +13,19 @@ ghost use Rattle.px_index.specs.declared.field.Field.{Field};
 /// Entries that compare equal are one.
 pub fn equal_entries_are_one()
     ensures { (entry other : Entry) → same_entry entry other ≡ true → entry ≡ other }
+{}
+
+/// No versions have no entries.
+pub fn entries_of_none()
+    ensures { AreEntries [] [] }
+{}
+
+/// In which order versions are listed doesn't matter to their entries.
+pub fn versions_stand_in_any_order()
+    ensures to_front { (front behind : List Version) (entries : List Entry) (version : Version) → AreEntries (front ++ version ∷ behind) entries
+        → AreEntries (version ∷ front ++ behind) entries }
+    ensures from_front { (front behind : List Version) (entries : List Entry) (version : Version) → AreEntries (version ∷ front ++ behind) entries
+        → AreEntries (front ++ version ∷ behind) entries }
 {}
 
 /// A linked version brings its own entries.
