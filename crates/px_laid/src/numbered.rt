@@ -49,7 +49,7 @@ impl<'a> NumberedCells<'a> {
     }
 }
 
-/// Puts bytes at a place of the list, which ends there, before it, or one place before it.
+/// Puts bytes at a place of the list: one that it has, the one behind its last, or the one behind that.
 fn put_near<'a>(
     near: &mut Vec<Option<&'a [u8]>>,
     place: usize,
@@ -68,7 +68,7 @@ fn put_near<'a>(
     Ok(())
 }
 
-/// Leaves a place of the list free where it ends one place before this one.
+/// Leaves a place of the list free where that is all that is missing before this one.
 fn reach_place(near: &mut Vec<Option<&[u8]>>, place: usize) -> Result<(), AllocError>
     requires { place ≤ length near.old.items + 1 }
     ensures reached { OnOk result (place ≤ length near.new.items) }
