@@ -77,7 +77,7 @@ pub record Adds (parts : Parts) (m : Machine) (life : Life) (restart : Restart) 
   pub chains : HoldsChains parts (state_after m session call) (after_step (last_store life) step)
   pub kept : IsKept (state_after m session call)
 
-short_of : (restart : Restart) → CanRestart restart → is_short restart.short ≡ true
+pub short_of : (restart : Restart) → CanRestart restart → is_short restart.short ≡ true
 short_of restart can =
     and_from (leb SHORTEST_SHORT restart.short) (leb restart.short LONGEST_SHORT)
     (le-leb SHORTEST_SHORT restart.short can.shape.short_from) (le-leb restart.short LONGEST_SHORT can.shape.short_to)

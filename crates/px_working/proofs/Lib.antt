@@ -8,4 +8,5 @@ pub mod Log
 pub mod Moments
 pub mod Numbers
 pub mod Stepping
+pub mod Sweeping
 pub mod Tables

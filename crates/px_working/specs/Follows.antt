@@ -2,6 +2,7 @@
 use Rattle.std.specs.Prelude.{◌≡◌, ℕ, ◌-◌, ◌≤◌, [], true}
 use Rattle.px_change.specs.Grammar.{may_hold}
 use Rattle.px_change.specs.declared.change.Change.{Change}
+use Rattle.px_change.specs.declared.change.ChangeKind.TheVariants.{Sweep}
 use Rattle.px_history.specs.Fitting.{IsWritten}
 use Rattle.px_history.specs.Steps.{IsStep, Step, after_step}
 use Rattle.px_history.specs.Store.{Store}
@@ -23,6 +24,14 @@ last_store life = store_at life (end_of life)
 -- the life with a step more, whose frame has the change that a session's call writes for it
 abbrev pub with_step : (short : ℕ) → Life → Step → Life
 with_step short life step = grown life step (change_of short (last_store life) step)
+
+-- the change of a step as the sweeper writes it, with the stored number of the write that was swept
+abbrev pub swept_change : (short : ℕ) → Store → Step → (xn : ℕ) → Change
+swept_change short store step xn = record (change_of short store step) { kind = Sweep; xn = xn }
+
+-- the life with an unlink more, whose frame has the sweeper's change
+abbrev pub with_sweep : (short : ℕ) → Life → Step → (xn : ℕ) → Life
+with_sweep short life step xn = grown life step (swept_change short (last_store life) step xn)
 
 -- what was published before is published later too
 abbrev pub KeepsPublished : (m later : Machine) → Type 0

@@ -8,8 +8,8 @@
 //! - `growing`: a life with one frame more, and what of it is as it was.
 //! - `lasting`: that what lasts stands, and goes on with each step, each frame appended and each sync.
 //! - `beginning`: a fresh machine, in what an opening found and in a new store.
-//! - `calls`: which step follows with each call of a session, that the store lasts at each moment of it, and that the machine works on
-//!   after it.
+//! - `calls`: which step follows with each call of a session and with each step of the sweeper, that the store lasts at each moment of
+//!   it, and that the machine works on after it.
 #![tactic(auto)]
 
 mod beginning;
@@ -18,7 +18,9 @@ mod growing;
 mod lasting;
 
 pub use beginning::{a_new_store_lasts, what_begins_works, what_is_found_lasts};
-pub use calls::{a_commit_goes_on, a_rollback_goes_on, a_write_goes_on, other_calls_go_on};
+pub use calls::{
+    a_commit_goes_on, a_rollback_goes_on, a_sweep_goes_on, a_write_goes_on, other_calls_go_on,
+};
 pub use growing::a_life_has_a_frame_more;
 pub use lasting::{
     a_crash_leaves_what_lasts, a_step_lasts, a_sync_lasts, another_machine_lasts,
