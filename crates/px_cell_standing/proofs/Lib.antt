@@ -12,3 +12,4 @@ pub mod Plain
 pub mod Resting
 pub mod Scanning
 pub mod Syncing
+pub mod Touching

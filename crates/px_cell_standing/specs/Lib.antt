@@ -3,3 +3,4 @@ pub mod Images
 pub mod Naming
 pub mod Settled
 pub mod Standing
+pub mod Touching

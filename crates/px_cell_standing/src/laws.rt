@@ -15,7 +15,7 @@ ghost use Rattle.px_restart.specs.declared.restart.Restart.{Restart};
 ghost use Rattle.px_shown.specs.Parts.{no_parts};
 ghost use Rattle.px_site.specs.Disk.{at_rest};
 ghost use Rattle.px_site.specs.State.{Moment, State};
-ghost use Rattle.px_standing.specs.Images.{IsPlainImage};
+ghost use Rattle.px_standing.specs.Images.{IsPlainImage, LeavesOthers};
 ghost use Rattle.px_standing.specs.Files.{Files, first_restart, second_restart};
 ghost use Rattle.px_standing.specs.Resting.{ReadsImages};
 ghost use Rattle.px_tidying.specs.Opening.{HasLife, Opening};
@@ -24,8 +24,9 @@ ghost use Rattle.px_working.specs.Works.{Works};
 ghost use Rattle.px_xlog.specs.Contents.{the_log};
 ghost use Rattle.px_cell_standing.specs.Found.{CanBeFound, Found, HoldsStore, IsFound, IsFoundOn, IsReadIn, IsSettledStore, found_in, machine_of};
 ghost use Rattle.px_cell_standing.specs.Images.{ImagesStandFor, StandsBetween};
-ghost use Rattle.px_cell_standing.specs.Settled.{HasNothing, IsAlone, IsAtRest, IsOneFile, Settled};
+ghost use Rattle.px_cell_standing.specs.Settled.{HasNothing, IsAlone, IsAtRest, IsOneFile, KeepsOneFile, Settled};
 ghost use Rattle.px_cell_standing.specs.Standing.{StandsFor};
+ghost use Rattle.px_cell_standing.specs.Touching.{TouchesOwn};
 
 use px_beginning::without_cells_files_rest;
 use px_filed::files_lie_under_their_frames;
@@ -61,6 +62,15 @@ pub fn what_a_crash_leaves_is_settled()
         → Settled s commits rows }
     ensures crashed { (s later : State) (commits : ℕ) (rows : List Row) (image : Files) → Settled s commits rows → IsPlainImage s.now image
         → IsAtRest image later → Settled later commits rows }
+{}
+
+/// Where calls on a settled site have touched no file but its own, a crash leaves all frames in one file: so where that stands for a store, be
+/// it another one by now, the site is settled once the machine is up again. A session's call touches the log alone.
+pub fn what_own_files_leave_is_settled()
+    ensures one_file { (before : State) (now : Moment) (commits : ℕ) (rows : List Row) → Settled before commits rows → TouchesOwn before now → KeepsOneFile now }
+    ensures crashed { (now : Moment) (later : State) (image : Files) (commits : ℕ) (rows : List Row) → KeepsOneFile now → IsPlainImage now image
+        → StandsFor image commits rows → IsAtRest image later → Settled later commits rows }
+    ensures log_alone { (before : State) (now : Moment) → LeavesOthers before.now now → TouchesOwn before now }
 {}
 
 /// On a settled site all frames stand in one file, as it reads and on the disk. What is found in a settled store is found on its site.
