@@ -6,9 +6,17 @@
 //! - `laws`: what is written is read again, and bytes are read in one way.
 #![tactic(auto)]
 
+mod dlogs;
+mod error;
 mod header;
+mod inventory;
 mod laws;
 mod part;
+mod part_ref;
 
+pub use dlogs::Dlogs;
+pub use error::LogError;
+pub use inventory::LOG_SIZE;
 pub use laws::{one_reading, read_is_written, written_is_read};
 pub use part::{HEADER_SIZE, LONGEST_PART, check_part, part_header};
+pub use part_ref::PartRef;

@@ -1,0 +1,122 @@
+// Which data logs there are, with their lengths.
+ghost use Rattle.std.specs.Prelude.{◌≡◌, ◌<◌, ◌≤◌, false, IsTrue, IfSome, IfNone, OnOk};
+ghost use Rattle.px_dlog.specs.Inventory.{HasRoom, IsSound, kept_of, logs_of};
+ghost use Rattle.px_dlog.specs.Logs.{all_synced, full_at, grown, part_log};
+
+use std::alloc::AllocError;
+
+/// A data log of so many bytes takes no part any more.
+pub const LOG_SIZE: u64 = 1_048_576;
+
+/// A log that takes no part any more. Each of its parts is synced.
+#[derive(Clone, Copy, Debug, PartialEq, Eq)]
+pub(crate) struct ClosedLog {
+    pub(crate) number: u32,
+    pub(crate) len: u64,
+}
+
+/// The log that parts are appended to.
+#[derive(Clone, Copy, Debug, PartialEq, Eq)]
+pub(crate) struct CurrentLog {
+    pub(crate) number: u32,
+    pub(crate) len: u64,
+    /// It may have a part that isn't synced.
+    pub(crate) unsynced: bool,
+}
+
+/// The data logs that there are, and the number of the one that is begun next.
+#[derive(Debug, Drop)]
+pub(crate) struct Inventory {
+    /// In the order of their numbers, which come before that of the current one.
+    pub(crate) closed: Vec<ClosedLog>,
+    pub(crate) current: Option<CurrentLog>,
+    /// From 1 to 2^32, which no log has.
+    pub(crate) next: u64,
+}
+
+/// Where a part goes: the end of a log.
+#[derive(Clone, Copy)]
+pub(crate) struct End {
+    pub(crate) log: u32,
+    pub(crate) place: u32,
+}
+
+impl Inventory {
+    /// Where the next part goes. None where its log would have the number 2^32.
+    pub(crate) fn end(&self) -> Option<End>
+        requires { IsSound (kept_of self.now) }
+        ensures some { IfSome result (λ end. (end.log ≡ part_log (logs_of (kept_of self.now))) × (1 ≤ end.log)) }
+        ensures place { IfSome result (λ end. end.place ≡ (logs_of (kept_of self.now)).len end.log) }
+        ensures small { IfSome result (λ end. end.place < LOG_SIZE) }
+        ensures none { IfNone result (full_at (logs_of (kept_of self.now)) ≡ Some self.now.next) }
+        ensures not_full { IfSome result (λ end. full_at (logs_of (kept_of self.now)) ≡ None) }
+    {
+        if let Some(current) = self.current && current.len < LOG_SIZE {
+            return Some(End {
+                log: current.number,
+                place: current.len as u32,
+            });
+        }
+        match u32::try_from(self.next) {
+            Ok(log) => Some(End { log, place: 0 }),
+            Err(_) => None,
+        }
+    }
+
+    /// Takes the memory in which the current log is kept once it is closed.
+    pub(crate) fn reserve(&mut self) -> Result<(), AllocError>
+        ensures room { OnOk result (HasRoom self.new) }
+        ensures same { kept_of self.new ≡ kept_of self.old }
+    {
+        self.closed.reserve(1)
+    }
+
+    /// A part of this size was appended there. It takes no memory.
+    pub(crate) fn extend(&mut self, end: End, size: u32)
+        requires sound { IsSound (kept_of self.old) }
+        requires room { HasRoom self.old }
+        requires log { end.log ≡ part_log (logs_of (kept_of self.old)) }
+        requires place { end.place ≡ (logs_of (kept_of self.old)).len end.log }
+        requires size { 1 ≤ size }
+        ensures logs { logs_of (kept_of self.new) ≡ grown end.log size (logs_of (kept_of self.old)) }
+        ensures sound { IsSound (kept_of self.new) }
+    {
+        let len = u64::from(end.place) + u64::from(size);
+        if let Some(current) = self.current && current.number != end.log {
+            self.closed
+                .push(ClosedLog {
+                    number: current.number,
+                    len: current.len,
+                })
+                .unwrap();
+        }
+        self.current = Some(CurrentLog {
+            number: end.log,
+            len,
+            unsynced: true,
+        });
+        self.next = self.next.max(u64::from(end.log) + 1);
+    }
+
+    /// Each part was synced.
+    pub(crate) fn set_synced(&mut self)
+        ensures logs { logs_of (kept_of self.new) ≡ all_synced (logs_of (kept_of self.old)) }
+        ensures sound { IsSound (kept_of self.old) → IsSound (kept_of self.new) }
+    {
+        if let Some(current) = &mut self.current {
+            current.unsynced = false;
+        }
+    }
+
+    /// The log that may have a part that isn't synced.
+    pub(crate) fn unsynced(&self) -> Option<u32>
+        requires { IsSound (kept_of self.now) }
+        ensures some { IfSome result (λ log. ((logs_of (kept_of self.now)).current ≡ Some log) × IsTrue (logs_of (kept_of self.now)).unsynced × (1 ≤ log)) }
+        ensures none { IfNone result ((logs_of (kept_of self.now)).unsynced ≡ false) }
+    {
+        match &self.current {
+            Some(log) if log.unsynced => Some(log.number),
+            _ => None,
+        }
+    }
+}
