@@ -1,2 +1,5 @@
+pub mod Numbers
 pub mod Parts
 pub mod Reading
+pub mod Resting
+pub mod Syncing

@@ -2,7 +2,6 @@
 use Rattle.std.specs.Prelude.{◌≡◌, ◌≢◌, ◌⊎◌, ⊤, ℕ, List, length, drop, Some}
 use Rattle.px_site.specs.Cause.{Counts, Rose}
 use Rattle.px_site.specs.State.{State}
-use Rattle.px_site.specs.declared.error.Fault.{Fault}
 use Rattle.px_site.specs.declared.error.Fault.TheVariants.{Read, Tell}
 use Rattle.px_site.specs.declared.error.SiteError.{SiteError}
 use Rattle.px_site.specs.declared.error.SiteError.TheVariants.{OutOfMemory as SiteShort, Fault as SiteFault}

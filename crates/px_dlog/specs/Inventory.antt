@@ -1,5 +1,5 @@
 -- Which data logs there are, as they are kept.
-use Rattle.std.specs.Prelude.{◌≡◌, ℕ, ◌+◌, ◌^◌, ◌<◌, ◌≤◌, ◌==◌, Bool, false, List, [], ◌∷◌, Option, Some, None, option_map, vec_len, vec_capacity, if◌then◌else◌}
+use Rattle.std.specs.Prelude.{ℕ, ◌+◌, ◌^◌, ◌<◌, ◌≤◌, ◌==◌, Bool, false, List, [], ◌∷◌, Option, Some, None, option_map, vec_len, vec_capacity, if◌then◌else◌}
 use Rattle.px_dlog.specs.declared.inventory.ClosedLog.{ClosedLog}
 use Rattle.px_dlog.specs.declared.inventory.CurrentLog.{CurrentLog}
 use Rattle.px_dlog.specs.declared.inventory.Inventory.{Inventory}

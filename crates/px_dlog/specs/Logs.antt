@@ -1,8 +1,9 @@
 -- The data logs as their owner sees them, and the parts that lie in them.
-use Rattle.std.specs.Prelude.{◌≡◌, ◌≢◌, ℕ, ◌+◌, ◌<◌, ◌≤◌, ◌==◌, max, nat_lt, Bool, true, false, ◌&&◌, List, [], ◌∷◌, length, take, drop, ◌++◌, ◌^◌, Option, Some, None, if◌then◌else◌}
+use Rattle.std.specs.Prelude.{◌≡◌, ◌≢◌, ℕ, ◌+◌, ◌<◌, ◌≤◌, ◌==◌, max, nat_lt, Bool, true, false, ◌&&◌, List, [], ◌∷◌, length, take, drop, ◌++◌, ◌^◌, Option, Some, None, Result, if◌then◌else◌}
 use Rattle.std.specs.List.{AllByRecursion}
 use Rattle.px_site.specs.Disk.{FileState, touched}
-use Rattle.px_site.specs.State.{Moment, State}
+use Rattle.px_site.specs.State.{Moment, State, Syncs}
+use Rattle.px_site.specs.declared.error.SiteError.{SiteError}
 use Rattle.px_site.specs.declared.name.FileName.{FileName}
 use Rattle.px_site.specs.declared.name.FileName.TheVariants.{Dlog}
 use Rattle.px_site.specs.Names.{kind}
@@ -35,13 +36,19 @@ abbrev pub full_at : Logs → Option ℕ
 full_at logs = if nat_lt (part_log logs) (2 ^ 32) then None else Some (part_log logs)
 
 -- so many bytes more in this log, which parts are now appended to
-abbrev pub grown : (log size : ℕ) → Logs → Logs
-grown log size logs = record {
-  len = λ n. if n == log then logs.len log + size else logs.len n;
-  current = Some log;
-  unsynced = true;
-  next = max logs.next (log + 1);
-}
+pub record IsGrown (log size : ℕ) (before now : Logs) : Type 0 where
+  pub len : (n : ℕ) → now.len n ≡ (if n == log then before.len log + size else before.len n)
+  pub current : now.current ≡ Some log
+  pub unsynced : now.unsynced ≡ true
+  pub next : now.next ≡ max before.next (log + 1)
+
+-- the log that may have a part which isn't synced
+abbrev pub to_sync_in : Option ℕ → Bool → Option ℕ
+to_sync_in None unsynced = None
+to_sync_in (Some n) unsynced = if unsynced then Some n else None
+
+abbrev pub to_sync : Logs → Option ℕ
+to_sync logs = to_sync_in logs.current logs.unsynced
 
 -- each part is synced
 abbrev pub all_synced : Logs → Logs
@@ -129,3 +136,8 @@ pub record Reads (part : PartRef) (content before after : List ℕ) : Type 0 whe
   pub checks : PartAt (drop part.place content) part.table part.slot bytes
   pub length_is : length bytes ≡ part.length
   pub behind : after ≡ before ++ bytes
+
+-- the file of this log was synced; where there is none, nothing was done
+abbrev pub SyncsLog : {T : Type 0} → Option ℕ → State → State → Result T SiteError → Type 0
+SyncsLog None before now result = now ≡ before
+SyncsLog (Some log) before now result = Syncs (Dlog log) before now result

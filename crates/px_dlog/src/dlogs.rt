@@ -6,6 +6,7 @@ use crate::inventory::Inventory;
 use std::marker::Model;
 
 mod reading;
+mod syncing;
 
 /// The data logs of a store. Contracts see them as the lengths of the logs, the current one, and the number of the next one;
 /// `IsDlogOf` says which parts they have on a site. Its owner gives them up after a fault of a call that changes the site.

@@ -1,7 +1,7 @@
 // Which data logs there are, with their lengths.
-ghost use Rattle.std.specs.Prelude.{◌≡◌, ◌<◌, ◌≤◌, false, IsTrue, IfSome, IfNone, OnOk};
+ghost use Rattle.std.specs.Prelude.{◌≡◌, ◌<◌, ◌≤◌, IfSome, IfNone, OnOk};
 ghost use Rattle.px_dlog.specs.Inventory.{HasRoom, IsSound, kept_of, logs_of};
-ghost use Rattle.px_dlog.specs.Logs.{all_synced, full_at, grown, part_log};
+ghost use Rattle.px_dlog.specs.Logs.{all_synced, full_at, part_log, to_sync};
 
 use std::alloc::AllocError;
 
@@ -42,16 +42,29 @@ pub(crate) struct End {
 }
 
 impl Inventory {
+    /// The current log, where it takes one more part.
+    fn growing(&self) -> Option<CurrentLog>
+        ensures some { IfSome result (λ log. (self.now.current ≡ Some log) × (log.len < LOG_SIZE)) }
+        ensures none { IfNone result (part_log (logs_of (kept_of self.now)) ≡ self.now.next) }
+    {
+        match self.current {
+            Some(log) if log.len < LOG_SIZE => Some(log),
+            _ => None,
+        }
+    }
+
     /// Where the next part goes. None where its log would have the number 2^32.
     pub(crate) fn end(&self) -> Option<End>
         requires { IsSound (kept_of self.now) }
-        ensures some { IfSome result (λ end. (end.log ≡ part_log (logs_of (kept_of self.now))) × (1 ≤ end.log)) }
+        ensures log { IfSome result (λ end. end.log ≡ part_log (logs_of (kept_of self.now))) }
+        ensures from_one { IfSome result (λ end. 1 ≤ end.log) }
         ensures place { IfSome result (λ end. end.place ≡ (logs_of (kept_of self.now)).len end.log) }
         ensures small { IfSome result (λ end. end.place < LOG_SIZE) }
+        ensures new { IfSome result (λ end. end.place ≡ 0 → end.log ≡ self.now.next) }
         ensures none { IfNone result (full_at (logs_of (kept_of self.now)) ≡ Some self.now.next) }
         ensures not_full { IfSome result (λ end. full_at (logs_of (kept_of self.now)) ≡ None) }
     {
-        if let Some(current) = self.current && current.len < LOG_SIZE {
+        if let Some(current) = self.growing() {
             return Some(End {
                 log: current.number,
                 place: current.len as u32,
@@ -71,33 +84,6 @@ impl Inventory {
         self.closed.reserve(1)
     }
 
-    /// A part of this size was appended there. It takes no memory.
-    pub(crate) fn extend(&mut self, end: End, size: u32)
-        requires sound { IsSound (kept_of self.old) }
-        requires room { HasRoom self.old }
-        requires log { end.log ≡ part_log (logs_of (kept_of self.old)) }
-        requires place { end.place ≡ (logs_of (kept_of self.old)).len end.log }
-        requires size { 1 ≤ size }
-        ensures logs { logs_of (kept_of self.new) ≡ grown end.log size (logs_of (kept_of self.old)) }
-        ensures sound { IsSound (kept_of self.new) }
-    {
-        let len = u64::from(end.place) + u64::from(size);
-        if let Some(current) = self.current && current.number != end.log {
-            self.closed
-                .push(ClosedLog {
-                    number: current.number,
-                    len: current.len,
-                })
-                .unwrap();
-        }
-        self.current = Some(CurrentLog {
-            number: end.log,
-            len,
-            unsynced: true,
-        });
-        self.next = self.next.max(u64::from(end.log) + 1);
-    }
-
     /// Each part was synced.
     pub(crate) fn set_synced(&mut self)
         ensures logs { logs_of (kept_of self.new) ≡ all_synced (logs_of (kept_of self.old)) }
@@ -110,11 +96,9 @@ impl Inventory {
 
     /// The log that may have a part that isn't synced.
     pub(crate) fn unsynced(&self) -> Option<u32>
-        requires { IsSound (kept_of self.now) }
-        ensures some { IfSome result (λ log. ((logs_of (kept_of self.now)).current ≡ Some log) × IsTrue (logs_of (kept_of self.now)).unsynced × (1 ≤ log)) }
-        ensures none { IfNone result ((logs_of (kept_of self.now)).unsynced ≡ false) }
+        ensures { result ≡ to_sync (logs_of (kept_of self.now)) }
     {
-        match &self.current {
+        match self.current {
             Some(log) if log.unsynced => Some(log.number),
             _ => None,
         }

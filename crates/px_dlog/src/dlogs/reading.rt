@@ -34,11 +34,7 @@ impl Dlogs {
             return Err(damaged);
         }
         let mut buffer = vec![in *out.allocator(); 0; HEADER_SIZE + length]?;
-        let count = site.read_at(
-            FileName::Dlog(part.log),
-            u64::from(part.place),
-            &mut buffer,
-        )?;
+        let count = site.read_at(FileName::Dlog(part.log), u64::from(part.place), &mut buffer)?;
         let Some(bytes) = check_part(&buffer[..count], part.length, part.table, part.slot) else {
             return Err(damaged);
         };
