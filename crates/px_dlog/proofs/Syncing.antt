@@ -74,7 +74,7 @@ pub all_rest : {T : Type 0} (x : T) (log : Option ℕ) (logs : Logs) (parts : Li
 all_rest {T} x log logs parts a b images there syncs is =
     each_rests {T = T} x logs.current logs.unsynced a b images (subst (λ (l : Option ℕ). SyncsLog {T = T} l a b (Ok x)) there syncs) parts is.lie is.rest
 
-weaken : (P Q : Stored → Type 0) → ((stored : Stored) → P stored → Q stored) → (parts : List Stored) → AllByRecursion P parts → AllByRecursion Q parts
+pub weaken : (P Q : Stored → Type 0) → ((stored : Stored) → P stored → Q stored) → (parts : List Stored) → AllByRecursion P parts → AllByRecursion Q parts
 weaken P Q f [] all = tt
 weaken P Q f (stored ∷ parts) all = (f stored all.0, weaken P Q f parts all.1)
 

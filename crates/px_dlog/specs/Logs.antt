@@ -50,6 +50,17 @@ to_sync_in (Some n) unsynced = if unsynced then Some n else None
 abbrev pub to_sync : Logs → Option ℕ
 to_sync logs = to_sync_in logs.current logs.unsynced
 
+-- that log, where the next part begins another one
+abbrev pub to_close : Logs → (place : ℕ) → Option ℕ
+to_close logs place = if place == 0 then to_sync logs else None
+
+-- the next part goes to this place of this log
+pub record IsEnd (logs : Logs) (log place : ℕ) : Type 0 where
+  pub from_one : 1 ≤ log
+  pub place_is : place ≡ logs.len log
+  pub fresh : place ≡ 0 → log ≡ logs.next
+  pub current : 1 ≤ place → logs.current ≡ Some log
+
 -- each part is synced
 abbrev pub all_synced : Logs → Logs
 all_synced logs = record logs { unsynced = false }

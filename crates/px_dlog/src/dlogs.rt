@@ -5,6 +5,7 @@ ghost use Rattle.px_dlog.specs.Logs.{full_at};
 use crate::inventory::Inventory;
 use std::marker::Model;
 
+mod appending;
 mod reading;
 mod syncing;
 

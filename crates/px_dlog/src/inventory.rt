@@ -1,7 +1,7 @@
 // Which data logs there are, with their lengths.
-ghost use Rattle.std.specs.Prelude.{◌≡◌, ◌<◌, ◌≤◌, IfSome, IfNone, OnOk};
-ghost use Rattle.px_dlog.specs.Inventory.{HasRoom, IsSound, kept_of, logs_of};
-ghost use Rattle.px_dlog.specs.Logs.{all_synced, full_at, part_log, to_sync};
+ghost use Rattle.std.specs.Prelude.{◌≡◌, ◌+◌, ℕ, ◌<◌, ◌≤◌, IfSome, IfNone, OnOk};
+ghost use Rattle.px_dlog.specs.Inventory.{HasRoom, IsSound, Rise, closed_len, kept_of, logs_of};
+ghost use Rattle.px_dlog.specs.Logs.{IsEnd, IsGrown, all_synced, full_at, part_log, to_close, to_sync};
 
 use std::alloc::AllocError;
 
@@ -60,7 +60,8 @@ impl Inventory {
         ensures from_one { IfSome result (λ end. 1 ≤ end.log) }
         ensures place { IfSome result (λ end. end.place ≡ (logs_of (kept_of self.now)).len end.log) }
         ensures small { IfSome result (λ end. end.place < LOG_SIZE) }
-        ensures new { IfSome result (λ end. end.place ≡ 0 → end.log ≡ self.now.next) }
+        ensures fresh { IfSome result (λ end. end.place ≡ 0 → end.log ≡ self.now.next) }
+        ensures current { IfSome result (λ end. 1 ≤ end.place → (logs_of (kept_of self.now)).current ≡ Some end.log) }
         ensures none { IfNone result (full_at (logs_of (kept_of self.now)) ≡ Some self.now.next) }
         ensures not_full { IfSome result (λ end. full_at (logs_of (kept_of self.now)) ≡ None) }
     {
@@ -82,6 +83,55 @@ impl Inventory {
         ensures same { kept_of self.new ≡ kept_of self.old }
     {
         self.closed.reserve(1)
+    }
+
+    /// The log that is to be synced before a part goes to this end.
+    pub(crate) fn to_close(&self, end: End) -> Option<u32>
+        ensures { result ≡ to_close (logs_of (kept_of self.now)) end.place }
+    {
+        if end.place == 0 {
+            self.unsynced()
+        } else {
+            None
+        }
+    }
+
+    /// A part of this size was appended there. It takes no memory.
+    pub(crate) fn extend(&mut self, end: End, size: u32)
+        requires sound { IsSound (kept_of self.old) }
+        requires room { HasRoom self.old }
+        requires end { IsEnd (logs_of (kept_of self.old)) end.log end.place }
+        requires size { 1 ≤ size }
+        ensures logs { IsGrown end.log size (logs_of (kept_of self.old)) (logs_of (kept_of self.new)) }
+        ensures sound { IsSound (kept_of self.new) }
+    {
+        if end.place == 0 {
+            self.close();
+        }
+        self.current = Some(CurrentLog {
+            number: end.log,
+            len: u64::from(end.place) + u64::from(size),
+            unsynced: true,
+        });
+        self.next = self.next.max(u64::from(end.log) + 1);
+    }
+
+    fn close(&mut self)
+        requires sound { IsSound (kept_of self.old) }
+        requires room { HasRoom self.old }
+        ensures len { (n : ℕ) → closed_len self.new.closed.items n ≡ (logs_of (kept_of self.old)).len n }
+        ensures order { Rise 1 self.new.next self.new.closed.items }
+        ensures next { self.new.next ≡ self.old.next }
+    {
+        if let Some(log) = self.current {
+            self.closed
+                .push(ClosedLog {
+                    number: log.number,
+                    len: log.len,
+                })
+                .unwrap();
+            self.current = None;
+        }
     }
 
     /// Each part was synced.
