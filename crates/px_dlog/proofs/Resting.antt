@@ -1,10 +1,10 @@
 -- Parts that rest, and what a crash and a sync leave of them.
-use Rattle.std.proofs.Common.{◌≡◌, ℕ, ◌+◌, ◌-◌, ◌<◌, ◌≤◌, List, length, take, drop, get_or, refl, sym, ap, ◌∙◌, arith}
+use Rattle.std.proofs.Common.{◌≡◌, ℕ, ◌+◌, ◌-◌, ◌<◌, ◌≤◌, List, ◌++◌, length, take, drop, get_or, refl, sym, ap, ◌∙◌, arith}
 use Rattle.std.proofs.lemmas.Grind.{same_number_lists}
-use Rattle.std.proofs.lemmas.List.{get_or-drop, get_or-take, length-drop, length-take}
+use Rattle.std.proofs.lemmas.List.{get_or-drop, get_or-take, length-drop, length-take, take-append-drop}
 use Rattle.px_site.specs.Disk.{FileState, IsImage, at_rest, least}
 use Rattle.px_site.proofs.Images.{untouched_within}
-use Rattle.px_dlog.specs.Part.{part_size}
+use Rattle.px_dlog.specs.Part.{PartAt, part_size, part_text}
 use Rattle.px_dlog.specs.Logs.{Stored, LiesIn, RestsIn, end_of}
 use Rattle.px_dlog.proofs.Parts.{length-part}
 
@@ -53,3 +53,15 @@ rests_in_image file image stored rests is_image =
 -- and so does the file once it is synced
 pub at_rest_rests : (content : List ℕ) (stored : Stored) → LiesIn content stored → RestsIn (at_rest content) stored
 at_rest_rests content stored lies = record { synced = lies; untouched = λ at from to. refl }
+
+-- a part that lies in a content is read there
+pub lies_read : (content : List ℕ) (stored : Stored) → LiesIn content stored → PartAt (drop stored.part.place content) stored.part.table stored.part.slot stored.bytes
+lies_read content stored lies =
+    let rest = drop stored.part.place content in
+    let text = part_text stored.part.table stored.part.slot stored.bytes in
+    let size : part_size stored.part.length ≡ part_size (length stored.bytes) = ap part_size (sym lies.is_part.length_is) in
+    record {
+      can = lies.is_part.can;
+      front = sym (take-append-drop (part_size stored.part.length) rest) ∙ ap (λ (l : List ℕ). l ++ drop (part_size stored.part.length) rest) lies.there
+          ∙ ap (λ (n : ℕ). text ++ drop n rest) size;
+    }

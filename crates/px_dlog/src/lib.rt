@@ -3,7 +3,7 @@
 //!
 //! - `part`: `part_header`, what stands in front of a part's bytes, and `check_part`, which reads a part.
 //! - `header`: the numbers in front of a part's bytes, and whether they fit the bytes behind them.
-//! - `laws`: what is written is read again, and bytes are read in one way.
+//! - `laws`: what is written is read again, bytes are read in one way, and a part that rests is left by each crash.
 //! - `dlogs`: `Dlogs`, the data logs over a site. `PartRef` names a part in them, and `LogError` says why a call did nothing.
 //! - `inventory`: which logs there are.
 //!
@@ -22,6 +22,8 @@ mod part_ref;
 pub use dlogs::Dlogs;
 pub use error::LogError;
 pub use inventory::LOG_SIZE;
-pub use laws::{one_reading, read_is_written, written_is_read};
+pub use laws::{
+    one_reading, read_is_written, what_lies_is_read, what_rests_is_left, written_is_read,
+};
 pub use part::{HEADER_SIZE, LONGEST_PART, check_part, part_header};
 pub use part_ref::PartRef;
