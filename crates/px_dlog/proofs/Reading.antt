@@ -8,7 +8,7 @@ use Rattle.px_bytes.proofs.Numbers.{one_u32, fnv_of_fits}
 use Rattle.px_dlog.specs.declared.part.TheConstants.{HEADER_SIZE, LONGEST_PART}
 use Rattle.px_dlog.specs.declared.header.TheConstants.{SUMMED_FROM}
 use Rattle.px_dlog.specs.declared.header.Header.{Header}
-use Rattle.px_dlog.specs.Part.{summed, part_text, part_size, PartAt}
+use Rattle.px_dlog.specs.Part.{summed, part_text, PartAt}
 use Rattle.px_dlog.specs.Header.{IsHeader, Checks}
 use Rattle.px_dlog.proofs.Parts.{header_text, part-header_text, part_long, spelled}
 

@@ -1,4 +1,6 @@
-ghost use Rattle.std.specs.Prelude.{◌≡◌, ◌++◌, ℕ, List};
+ghost use Rattle.std.specs.Prelude.{◌≡◌, ◌++◌, ℕ, List, drop};
+ghost use Rattle.px_site.specs.Disk.{FileState, IsImage};
+ghost use Rattle.px_dlog.specs.Logs.{LiesIn, RestsIn, Stored};
 ghost use Rattle.px_dlog.specs.Part.{CanPart, PartAt, part_text};
 
 /// What was written is read again as the same part, whatever follows it.
@@ -17,4 +19,16 @@ pub fn read_is_written()
 pub fn one_reading()
     ensures { (text : List ℕ) (t u m n : ℕ) (x y : List ℕ) → PartAt text t m x → PartAt text u n y
         → (t ≡ u) × (m ≡ n) × (x ≡ y) }
+{}
+
+/// A part that lies in a log is read there.
+pub fn what_lies_is_read()
+    ensures { (content : List ℕ) (stored : Stored) → LiesIn content stored
+        → PartAt (drop stored.part.place content) stored.part.table stored.part.slot stored.bytes }
+{}
+
+/// A part that rests lies in whatever a crash leaves of its log.
+pub fn what_rests_is_left()
+    ensures { (file : FileState) (image : List ℕ) (stored : Stored) → RestsIn file stored → IsImage file image
+        → LiesIn image stored }
 {}

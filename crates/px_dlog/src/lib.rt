@@ -1,14 +1,29 @@
-//! Data logs: how a part of a long row stands in one, with its length, a sum, and the table and slot that it is of
-//! (docs/FORMATS.md, 'Part of a data log').
+//! Data logs: parts of long rows, each with its length, a sum, and the table and slot that it is of (docs/FORMATS.md, 'Part of a
+//! data log').
 //!
 //! - `part`: `part_header`, what stands in front of a part's bytes, and `check_part`, which reads a part.
 //! - `header`: the numbers in front of a part's bytes, and whether they fit the bytes behind them.
-//! - `laws`: what is written is read again, and bytes are read in one way.
+//! - `laws`: what is written is read again, bytes are read in one way, and a part that rests is left by each crash.
+//! - `dlogs`: `Dlogs`, the data logs over a site. `PartRef` names a part in them, and `LogError` says why a call did nothing.
+//! - `inventory`: which logs there are.
+//!
+//! specs/: `Part` and `Header` (one part), `Logs` (the logs, which parts they have, and which of these rest), `Inventory` (the logs
+//! as they are kept), `Errors`. An opening that finds the logs, and their removal, are still to come.
 #![tactic(auto)]
 
+mod dlogs;
+mod error;
 mod header;
+mod inventory;
 mod laws;
 mod part;
+mod part_ref;
 
-pub use laws::{one_reading, read_is_written, written_is_read};
+pub use dlogs::Dlogs;
+pub use error::LogError;
+pub use inventory::LOG_SIZE;
+pub use laws::{
+    one_reading, read_is_written, what_lies_is_read, what_rests_is_left, written_is_read,
+};
 pub use part::{HEADER_SIZE, LONGEST_PART, check_part, part_header};
+pub use part_ref::PartRef;
