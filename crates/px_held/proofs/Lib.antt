@@ -1,9 +1,11 @@
 pub mod Committed
+pub mod Due
 pub mod Going
 pub mod Making
 pub mod Numbered
 pub mod Replaced
 pub mod Serving
 pub mod Stored
+pub mod Sweeping
 pub mod Unlinked
 pub mod Walks

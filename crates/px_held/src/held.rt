@@ -14,6 +14,7 @@ ghost use Rattle.px_held.specs.Serving.{AreNumbered, IsTableOf, Serves};
 
 mod linking;
 mod reading;
+mod sweeping;
 mod tidying;
 mod unlinking;
 

@@ -1,22 +1,30 @@
-ghost use Rattle.std.specs.Prelude.{◌≡◌, ℕ, All, Bool, List, option_map};
+ghost use Rattle.std.specs.Prelude.{◌≡◌, ℕ, All, Bool, List, Some, option_map};
 ghost use Rattle.px_cell_laws.specs.Holding.{HoldsChains, variation_in};
+ghost use Rattle.px_cell_laws.specs.Locating.{AreWrittenAt};
 ghost use Rattle.px_chain.specs.Sound.{IsUsedRow, key_of, no_layout, no_places};
 ghost use Rattle.px_chain_laws.specs.Reading as machine;
 ghost use Rattle.px_history.specs.Steps.{Step, after_step};
 ghost use Rattle.px_history.specs.Store.{Store};
 ghost use Rattle.px_laid.specs.Places.{Places};
 ghost use Rattle.px_model.specs.Machine.{Machine};
+ghost use Rattle.px_model.specs.declared.machine.Flat.{Flat};
 ghost use Rattle.px_opened.specs.Opened.{AreOpened, Opens, tables_of};
 ghost use Rattle.px_shown.specs.Parts.{Parts};
 ghost use Rattle.px_shown.specs.Shown.{Done};
 ghost use Rattle.px_shown.specs.Tables.{AreSound, Layouts};
 ghost use Rattle.px_site.specs.State.{State};
 ghost use Rattle.px_tables.specs.Held.{Held};
+ghost use Rattle.px_xacts.specs.Transactions as xacts;
 ghost use Rattle.px_xacts.specs.Transactions.{Transactions};
+ghost use Rattle.px_xacts.specs.declared.answers.Due.{Due};
 ghost use Rattle.px_xacts_laws.specs.Mirrors.{Mirrors};
 ghost use Rattle.px_held.specs.Linking.{HasTable};
 ghost use Rattle.px_held.specs.Reading.{newest_committed};
 ghost use Rattle.px_held.specs.Serving.{AreNumbered, HasSameTables, HeldTables, Serves};
+ghost use Rattle.px_held.specs.Sweeping.{IsSweepOf};
+
+use px_cell_laws::{a_swept_write_has_its_version, what_is_due_is_found_in_its_row};
+use px_chain_laws::a_sweep_moves_the_base;
 
 /// What serves a store asks of the site only the contents of the tables' files.
 pub fn serves_elsewhere()
@@ -81,3 +89,14 @@ pub fn the_newest_commit_stands_in_the_cells()
         → option_map (λ view. variation_in parts m.base t ((store.tables t).slot view.slot)) (newest_committed all store t row)
         ≡ machine.newest_committed m (t, key_of (store.tables t) row) }
 {}
+
+/// What is due stands at one place of its row, with at most one version behind it, and there the write is swept that the machine sweeps next.
+/// What goes with it is the unlink of that sweep.
+pub fn a_due_write_is_swept()
+    ensures { (parts : Parts) (m : Machine) (all : Transactions) (store : Store) (due : Due) → Mirrors m all → HoldsChains parts m store
+        → AreWrittenAt all store → xacts.due all ≡ Some due → (w : Flat) × (place : ℕ) × IsSweepOf m store due w place }
+{
+    a_swept_write_has_its_version();
+    what_is_due_is_found_in_its_row();
+    a_sweep_moves_the_base();
+}

@@ -8,6 +8,7 @@ ghost use Rattle.px_history.specs.Fitting.{IsStoredNumber};
 ghost use Rattle.px_model.specs.declared.limits.TheConstants.{STORED_NUMBERS_END};
 ghost use Rattle.px_tables.specs.Held.{HasLayout, table_of};
 ghost use Rattle.px_held.specs.Numbers.{IsPastVersions, IsUnstored};
+ghost use Rattle.px_held.specs.Sweeping.{newer_in};
 
 use crate::reader::Reader;
 use px_cells::SlotState;
@@ -54,6 +55,21 @@ fn is_committed(standing: Standing) -> bool
     ensures { result ≡ is_committed standing }
 {
     matches!(standing, Standing::Committed(_))
+}
+
+/// The slot in front of this one in the chain of a row, 0 where it is the newest: the walk stops there. None where it isn't in the chain.
+pub(crate) fn newer_of(table: &Table, row: u32, slot: u32) -> Option<u32>
+    requires { IsUsedRow (table_of table.now.cells) row }
+    ensures { (layout : Layout) → HasLayout table.now.cells layout → result ≡ newer_in 0 slot (layout.chain row) }
+{
+    let mut newer = 0;
+    for (number, _) in table.versions(row) {
+        if number == slot {
+            return Some(newer);
+        }
+        newer = number;
+    }
+    None
 }
 
 /// The least number from this one on past those of all versions of a table; or the first slot whose version has no stored number.
