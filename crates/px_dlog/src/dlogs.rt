@@ -1,8 +1,11 @@
-ghost use Rattle.std.specs.Prelude.{◌≡◌};
+ghost use Rattle.std.specs.Prelude.{◌≡◌, ◌≤◌, ℕ, []};
+ghost use Rattle.px_site.specs.State.{State};
+ghost use Rattle.px_site.specs.declared.name.FileName.{FileName};
 ghost use Rattle.px_dlog.specs.Inventory.{logs_of};
-ghost use Rattle.px_dlog.specs.Logs.{full_at};
+ghost use Rattle.px_dlog.specs.Logs.{IsDlogOf, full_at};
 
 use crate::inventory::Inventory;
+use std::alloc::Global;
 use std::marker::Model;
 
 mod appending;
@@ -29,6 +32,20 @@ impl Model for Dlogs {
 }
 
 impl Dlogs {
+    /// The data logs of a store that has none yet.
+    pub fn new(alloc: Global) -> Dlogs
+        ensures { (s : State) → ((n : ℕ) → 1 ≤ n → s.content (FileName.Dlog n) ≡ []) → IsDlogOf (logs_of result) [] s }
+    {
+        Dlogs {
+            inventory: Inventory {
+                closed: Vec::new(alloc),
+                current: None,
+                next: 1,
+            },
+            buffer: Vec::new(alloc),
+        }
+    }
+
     /// The number with which the next part is refused by LogFull. None exactly where it isn't.
     pub fn full(&self) -> Option<u64>
         ensures { result ≡ full_at (logs_of self.now) }
