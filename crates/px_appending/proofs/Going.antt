@@ -9,12 +9,11 @@ use Rattle.px_held.specs.Serving.{HasSameForm, HeldTables, Serves}
 use Rattle.px_history.specs.Fitting.{PlacesFit}
 use Rattle.px_history.specs.Steps.{Step, after_step}
 use Rattle.px_history.specs.Store.{Store}
-use Rattle.px_history.specs.Written.{change_of}
 use Rattle.px_life.proofs.Commits as life_commits
 use Rattle.px_life.proofs.Done as life_done
 use Rattle.px_life.proofs.Fronts.{life_grows}
 use Rattle.px_life.specs.Front.{AreStored}
-use Rattle.px_life.specs.Life.{Life, end_of, store_at}
+use Rattle.px_life.specs.Life.{Life, end_of, grown, store_at}
 use Rattle.px_log.specs.Log.{HasFirst, IsLogOf, Log, with_frame}
 use Rattle.px_model.specs.Machine.{Machine}
 use Rattle.px_model.specs.declared.limits.TheConstants.{MOST_TABLES}
@@ -27,10 +26,10 @@ use Rattle.px_tidying.proofs.Composing.{last_moment}
 use Rattle.px_tidying.proofs.Made.{log_first}
 use Rattle.px_tidying.specs.Opening.{HasLife, HasStore, Opening}
 use Rattle.px_working.proofs.Stepping.{step_lasts}
-use Rattle.px_working.specs.Follows.{last_store, with_step}
+use Rattle.px_working.specs.Follows.{last_store}
 use Rattle.px_working.specs.Lasts.{HasOthersOf, Lasts, LeavesFronts}
 use Rattle.px_xlog.specs.Contents.{the_log}
-use Rattle.px_appending.specs.Appending.{GoesOn, KeepsOthers, LastsOn, LastsWithin, MayGoOn}
+use Rattle.px_appending.specs.Appending.{AddsOn, Changing, GoesOn, KeepsOthers, LastsAdding, LastsOn, LastsWithin, MayAdd, called}
 
 -- ---- results
 
@@ -84,37 +83,40 @@ abbrev pub HasMore : (tells : Type 0) → Change → (old new : Opening) → Typ
 HasMore tells change old new =
     tells → (changes : List Change) → IsLogOf old.log changes old.site → IsLogOf new.log (changes ++ change ∷ []) new.site
 
--- it is the step's, whichever store the tables are those of
+-- it is that change, whichever store the tables are those of
+abbrev pub IsChange : Changing → Change → Opening → Type 0
+IsChange change given o = (store : Store) → HasStore store o → given ≡ change o.held.short store
+
 abbrev pub IsOfStep : Step → Change → Opening → Type 0
-IsOfStep step change o = (store : Store) → HasStore store o → change ≡ change_of o.held.short store step
+IsOfStep step given o = IsChange (called step) given o
 
 -- ---- a life
 
-module _ (parts : Parts) (least : ℕ) (m later : Machine) (life : Life) (restart : Restart) (marks : Marks) (step : Step) (old : Opening)
-    (may : MayGoOn parts least m later life restart marks step old) where
+module _ (parts : Parts) (least : ℕ) (m later : Machine) (life : Life) (restart : Restart) (marks : Marks) (step : Step) (changing : Changing) (old : Opening)
+    (may : MayAdd parts least m later life restart marks step (changing restart.short (last_store life)) old) where
   abbrev has : HasLife parts least m life restart marks old
   has = may.has
 
   abbrev change : Change
-  change = change_of restart.short (last_store life) step
+  change = changing restart.short (last_store life)
 
   lasts_with : (now : Moment) → HasOthersOf old.site.now now → LeavesFronts marks.durable (life.changes ++ change ∷ []) (now.files the_log)
-      → Lasts parts least later (with_step restart.short life step) restart marks now
+      → Lasts parts least later (grown life step change) restart marks now
   lasts_with now others leaves =
       step_lasts life_grows
       (λ parts short tables next rows life restart step change is. life_done.done_goes_on parts short tables next rows life step change is restart)
       (λ short life restart step change. life_commits.commits_go_on short life restart (store_at life (end_of life)) step change)
       parts least m later life restart marks step change old.site.now now has.lasts may.follows others leaves
 
-  same_change : (given : Change) → IsOfStep step given old → given ≡ change
+  same_change : (given : Change) → IsChange changing given old → given ≡ change
   same_change given is =
-      is (last_store life) has.store ∙ ap (λ (n : ℕ). change_of n (last_store life) step) (sym has.store.short ∙ has.short)
+      is (last_store life) has.store ∙ ap (λ (n : ℕ). changing n (last_store life)) (sym has.store.short ∙ has.short)
 
-  meanwhile : (given : Change) → IsOfStep step given old → (now : Moment)
+  meanwhile : (given : Change) → IsChange changing given old → (now : Moment)
       → OnFile the_log old.site.now (HasFirst old.log.durable (life.changes ++ given ∷ [])) now → LastsWithin parts least later restart old.site.now now
   meanwhile given is now on = record {
     still = record {
-      life = with_step restart.short life step;
+      life = grown life step change;
       marks = marks;
       lasts = lasts_with now on.others
           (subst (λ (n : ℕ). LeavesFronts n (life.changes ++ change ∷ []) (now.files the_log)) has.durable
@@ -125,10 +127,10 @@ module _ (parts : Parts) (least : ℕ) (m later : Machine) (life : Life) (restar
     others = on.others;
   }
 
-  life_after : (given : Change) (new : Opening) → IsOfStep step given old → HasStore (after_step (last_store life) step) new → new.log ≡ with_frame given old.log
+  life_after : (given : Change) (new : Opening) → IsChange changing given old → HasStore (after_step (last_store life) step) new → new.log ≡ with_frame given old.log
       → IsLogOf new.log (life.changes ++ given ∷ []) new.site
       → EachMoment (OnFile the_log old.site.now (HasFirst old.log.durable (life.changes ++ given ∷ []))) old.site new.site
-      → HasLife parts least later (with_step restart.short life step) restart marks new
+      → HasLife parts least later (grown life step change) restart marks new
   life_after given new is store log logged moments =
       let others : HasOthersOf old.site.now new.site.now =
       last_moment (HasOthersOf old.site.now) old.site new.site (λ name away. refl) (weaker_moments (λ now on. on.others) moments) in
@@ -148,17 +150,26 @@ module _ (parts : Parts) (least : ℕ) (m later : Machine) (life : Life) (restar
 
 -- ---- what a call says of all lives
 
+pub adds_on : (tells : Type 0) (step : Step) (changing : Changing) (change : Change) (old new : Opening) → IsChange changing change old
+    → ((store : Store) → HasStore store old → HasStore (after_step store step) new) → new.log ≡ with_frame change old.log
+    → HasMore tells change old new → GrowsBy tells change old new → AddsOn tells step changing old new
+adds_on tells step changing change old new is after log logged moments tell parts least m later life restart marks may =
+    life_after parts least m later life restart marks step changing old may change new is (after (last_store life) may.has.store) log
+    (logged tell life.changes may.has.logged) (moments tell life.changes may.has.logged)
+
 pub goes_on : (tells : Type 0) (step : Step) (change : Change) (old new : Opening) → IsOfStep step change old
     → ((store : Store) → HasStore store old → HasStore (after_step store step) new) → new.log ≡ with_frame change old.log
     → HasMore tells change old new → GrowsBy tells change old new → GoesOn tells step old new
-goes_on tells step change old new is after log logged moments tell parts least m later life restart marks may =
-    life_after parts least m later life restart marks step old may change new is (after (last_store life) may.has.store) log
-    (logged tell life.changes may.has.logged) (moments tell life.changes may.has.logged)
+goes_on tells step change old new = adds_on tells step (called step) change old new
+
+pub lasts_adding : (tells : Type 0) (step : Step) (changing : Changing) (change : Change) (old new : Opening) → IsChange changing change old
+    → GrowsBy tells change old new → LastsAdding tells step changing old new
+lasts_adding tells step changing change old new is moments tell parts least m later life restart marks may =
+    weaker_moments (meanwhile parts least m later life restart marks step changing old may change is) (moments tell life.changes may.has.logged)
 
 pub lasts_on : (tells : Type 0) (step : Step) (change : Change) (old new : Opening) → IsOfStep step change old → GrowsBy tells change old new
     → LastsOn tells step old new
-lasts_on tells step change old new is moments tell parts least m later life restart marks may =
-    weaker_moments (meanwhile parts least m later life restart marks step old may change is) (moments tell life.changes may.has.logged)
+lasts_on tells step change old new = lasts_adding tells step (called step) change old new
 
 pub keeps_others : (tells : Type 0) (given : Change) (old new : Opening) → GrowsBy tells given old new → KeepsOthers tells old new
 keeps_others tells given old new moments tell changes is = weaker_moments (λ now on. on.others) (moments tell changes is)

@@ -1,4 +1,5 @@
 pub mod Ends
 pub mod Flushing
 pub mod Going
+pub mod Unlinks
 pub mod Versions

@@ -32,7 +32,7 @@ use Rattle.px_appending.proofs.Going.{IsOfStep, store_after}
 -- ---- the table that is ready
 
 -- so many places behind the first
-table_there : (first : ℕ) (tables : List Held) (place : ℕ) (table : Held) → place < length tables → table ≡ get_or tables place table
+pub table_there : (first : ℕ) (tables : List Held) (place : ℕ) (table : Held) → place < length tables → table ≡ get_or tables place table
     → numbered_from first tables (first + place) ≡ table_of table.cells
 table_there first [] place table within is = absurd (omega (arith, within))
 table_there first (old ∷ others) zero table within is =
@@ -61,7 +61,7 @@ ready_table site held store prepared ready serves =
 -- ---- the step
 
 -- The same tables, where each transaction is open: which cells are written doesn't depend on that.
-abbrev with_all_open : Store → Store
+abbrev pub with_all_open : Store → Store
 with_all_open store = record store { done = λ xn. false; over = λ xn. false }
 
 may_put : (site : State) (held : HeldTables) (store : Store) (prepared : Prepared) → IsReady held prepared → Serves site held store

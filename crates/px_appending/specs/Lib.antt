@@ -1,3 +1,4 @@
 pub mod Appending
 pub mod Ends
+pub mod Unlinks
 pub mod Versions

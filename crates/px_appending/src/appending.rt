@@ -1,6 +1,7 @@
 ghost use Rattle.std.specs.Prelude.{◌≡◌, ◌+◌, ◌^◌, ◌<◌, ℕ, [], Some, IfErr, IfSome, IsErrOf, OnErr, OnOk};
 ghost use Rattle.px_held.specs.Linking.{step_of};
 ghost use Rattle.px_held.specs.Serving.{HasSameForm, HeldTables};
+ghost use Rattle.px_held.specs.Unlinking.{unlink_from};
 ghost use Rattle.px_history.specs.Fitting.{IsStoredNumber};
 ghost use Rattle.px_history.specs.Steps.{after_step};
 ghost use Rattle.px_history.specs.Store.{Store};
@@ -10,14 +11,15 @@ ghost use Rattle.px_log.specs.Log.{full_at};
 ghost use Rattle.px_site.specs.Cause.{HasCause, IsOwn, NoneFell, Rose};
 ghost use Rattle.px_site.specs.State.{OnShort};
 ghost use Rattle.px_tidying.specs.Opening.{HasStore, opening};
-ghost use Rattle.px_appending.specs.Appending.{GoesOn, HasSameShape, IsFlushed, KeepsOthers, LastsOn, LastsThere};
+ghost use Rattle.px_appending.specs.Appending.{AddsOn, GoesOn, HasSameShape, IsFlushed, KeepsOthers, LastsAdding, LastsOn, LastsThere};
 ghost use Rattle.px_appending.specs.Ends.{IsDue, end_step};
+ghost use Rattle.px_appending.specs.Unlinks.{GoesFrom, MayBeUnlinked, sweeping};
 ghost use Rattle.px_appending.specs.Versions.{FitsFields, MayBeAppended};
 
 use crate::fields::fits_fields;
 use px_cells::CellList;
 use px_change::{Change, ChangeKind};
-use px_held::{Held, Prepared};
+use px_held::{Held, Prepared, PreparedUnlink};
 use px_log::{LogError, Xlog};
 use px_site::{Fault, Site, SiteError};
 use std::alloc::Global;
@@ -63,6 +65,51 @@ pub fn append_version<W: Site>(
     };
     log.append(site, &change)?;
     held.lay(prepared);
+    Ok(())
+}
+
+/// Appends the frame of a sweep with the stored number of the write that is swept, and then lays the cells of the versions that go over
+/// their table. LogFull where the log takes no frame more; OutOfMemory where the call or the site wants memory. Both leave the site, the
+/// tables and the log as they were; a fault leaves the tables and the log so.
+pub fn append_unlinked<W: Site>(
+    site: &mut W,
+    held: &mut Held,
+    log: &mut Xlog,
+    prepared: PreparedUnlink,
+    swept: u64,
+) -> Result<(), LogError>
+    requires store { (store : Store) × (from : ℕ) × GoesFrom store prepared from (opening (W.state site.old) held.old log.old) }
+    requires ready { MayBeUnlinked held.old prepared swept }
+    ensures appended { (store : Store) (from : ℕ) → GoesFrom store prepared from (opening (W.state site.old) held.old log.old)
+        → OnOk result (AddsOn W.tells (unlink_from prepared from) (sweeping prepared from swept) (opening (W.state site.old) held.old log.old) (opening (W.state site.new) held.new log.new)) }
+    ensures store { (store : Store) (from : ℕ) → GoesFrom store prepared from (opening (W.state site.old) held.old log.old)
+        → OnOk result (HasStore (after_step store (unlink_from prepared from)) (opening (W.state site.new) held.new log.new)) }
+    ensures store_stays { (store : Store) → HasStore store (opening (W.state site.old) held.old log.old)
+        → OnErr result (HasStore store (opening (W.state site.new) held.new log.new)) }
+    ensures moments { (store : Store) (from : ℕ) → GoesFrom store prepared from (opening (W.state site.old) held.old log.old)
+        → LastsAdding W.tells (unlink_from prepared from) (sweeping prepared from swept) (opening (W.state site.old) held.old log.old) (opening (W.state site.new) held.new log.new) }
+    ensures others { KeepsOthers W.tells (opening (W.state site.old) held.old log.old) (opening (W.state site.new) held.new log.new) }
+    ensures frames { OnOk result (log.new.frames ≡ log.old.frames + 1) }
+    ensures shape { HasSameShape log.old log.new }
+    ensures form { HasSameForm held.old held.new }
+    ensures as_before { OnErr result ((held.new ≡ held.old) × (log.new ≡ log.old)) }
+    ensures untouched { W.tells → IfErr result (LeavesUntouched (W.state site.old) (W.state site.new)) }
+    ensures full { full_at log.old ≡ Some log.old.frames → IsErrOf result (LogError.LogFull log.old.frames) }
+    ensures cause { IfErr result (HasLogCause log.old (W.counts site.old) (W.counts site.new)) }
+    ensures own { IfErr result (IsFaultOf Fault.Write) }
+    ensures none_fell { NoneFell (W.counts site.old) (W.counts site.new) }
+{
+    if let Some(frame) = log.full() {
+        return Err(LogError::LogFull(frame));
+    }
+    let sweep = Change {
+        kind: ChangeKind::Sweep,
+        xn: swept,
+        commit: 0,
+        cells: held.cells_unlinked(&prepared)?,
+    };
+    log.append(site, &sweep)?;
+    held.lay_unlinked(prepared);
     Ok(())
 }
 
