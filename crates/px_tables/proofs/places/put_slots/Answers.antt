@@ -12,9 +12,10 @@ use Rattle.px_tables.proofs.places.put_slots.Goals as goal
 put_first : (slots : List Slot) (linked : Linked) (all rest : List Linked) → all ≡ linked ∷ rest → All (λ m. m.number < length slots) all
     → let put = slice_set slots linked.number linked.slot in (with_slots put rest ≡ with_slots slots all) × All (λ m. m.number < length put) rest
 put_first slots linked all rest is within = (
-    ap (with_slots slots) (sym is),
-    subst (λ (end : ℕ). All (λ (m : Linked). m.number < end) rest) (sym (length-set slots linked.number linked.slot))
-    (All-tail (λ (m : Linked). m.number < length slots) linked rest (subst (λ (l : List Linked). All (λ (m : Linked). m.number < length slots) l) is within)))
+  ap (with_slots slots) (sym is),
+  subst (λ (end : ℕ). All (λ (m : Linked). m.number < end) rest) (sym (length-set slots linked.number linked.slot))
+      (All-tail (λ (m : Linked). m.number < length slots) linked rest (subst (λ (l : List Linked). All (λ (m : Linked). m.number < length slots) l) is within)),
+)
 
 -- the slot that was there goes, whether its bytes lie in place or not
 pub loop-linked-preserved : goal.loop-linked-preserved
