@@ -36,7 +36,7 @@ pub returns-in_err-free : goal.returns-in_err-free
 returns-in_err-free g c =
     let p = err_from_is_err_and c.from_residual-in_err-free.result c.from_residual-in_err-free.ensures.1 in
     rw (p.1, p.2)
-    (no_memory g.W.Site.tells g.W.Site.state g.W.Site.counts c.args.session c.args.call c.args.self.now c.write.new.self
+    (no_memory g.W.Site.tells g.W.Site.state g.W.Site.counts c.args.session c.args.call c.args.self.now c.write-2.new.self
     (λ m works. MayPut m (last_store works.life) c.args.session c.args.call c.args.ready) c.in_err-free.ensures.err c.requires.well c.requires.whole c.requires.room.small)
 
 pub append_version-requires-clause-ready : goal.append_version-requires-clause-ready
@@ -128,7 +128,7 @@ returns g c =
     let new : Kept g.row.W.Denot = record old {
       site = c.append_version.new.site;
       held = c.append_version.new.held;
-      active = c.write.new.self;
+      active = c.write-2.new.self;
       log = c.append_version.new.log;
     } in
     let step = Step.put (key_written w).0 ready.place.header slot in
@@ -143,7 +143,7 @@ returns g c =
     } in
     let noted = c.in_ok-free.ensures.noted in
     framed_does tells state counts session call old new (λ m works. MayPut m (last_store works.life) session call ready) step c.reply_done-done.result appends
-    c.requires.well c.requires.whole (let count = c.write.ensures.commits in omega (arith, count))
+    c.requires.well c.requires.whole (let count = c.write-2.ensures.commits in omega (arith, count))
     (λ t m works may. (
       write_framed state session call ready old w slot is room.small fits c.requires.well c.in_ok-slot.ensures m works may c.reply_done-done.result new at places its_slot
           c.reply_done-done.ensures
