@@ -1,4 +1,5 @@
 pub mod Errors
+pub mod Finding
 pub mod Header
 pub mod Inventory
 pub mod Logs
