@@ -12,6 +12,8 @@ use Rattle.px_site.specs.Names.{same_file, kind}
 use Rattle.px_site.specs.State.{Changes, EachMoment, State, begun, with_file}
 use Rattle.px_site.proofs.Files.{same_file_is, with_file_other, with_file_same}
 use Rattle.px_site.proofs.Moments.{change_moments, then_moments}
+use Rattle.px_dlog.specs.declared.error.LogError.{LogError}
+use Rattle.px_dlog.specs.declared.error.LogError.TheVariants.{OutOfMemory, Fault as FaultOf, Damaged, LogFull}
 use Rattle.px_dlog.specs.Errors.{UnlessFault, of_site}
 use Rattle.px_dlog.specs.Part.{part_size, part_text}
 use Rattle.px_dlog.specs.Logs.{IsDlogOf, IsEnd, IsGrown, IsPart, KeepsParts, LiesIn, Logs, Rests, RestsIn, Stored, SyncsLog, end_of, is_unsynced, is_unsynced_in, log_of, to_close, to_sync}
@@ -247,3 +249,9 @@ sync_unspoiled T (Some log) a b (SiteFault fault) syncs = tt
 pub change_unspoiled : {T : Type 0} {file : FileName} {change : Change} (a b : State) (e : SiteError) → Changes {T = T} file change a b (Err e) → UnlessFault (b ≡ a) (of_site e)
 change_unspoiled a b SiteShort moves = moves.short
 change_unspoiled a b (SiteFault fault) moves = tt
+
+pub unless_fault : (P Q : Type 0) (e : LogError) → (P → Q) → UnlessFault P e → UnlessFault Q e
+unless_fault P Q OutOfMemory f holds = f holds
+unless_fault P Q (FaultOf fault) f holds = tt
+unless_fault P Q (Damaged file place) f holds = f holds
+unless_fault P Q (LogFull n) f holds = f holds

@@ -1,4 +1,5 @@
 pub mod Appending
+pub mod Bodies
 pub mod Listing
 pub mod Numbers
 pub mod Parts

@@ -3,43 +3,17 @@ use Rattle.std.proofs.Common.{◌≡◌, ◌≢◌, ℕ, ◌+◌, ◌^◌, ◌<�
 use Rattle.std.proofs.lemmas.Bool.Decides.{nat_tests}
 use Rattle.std.specs.List.{AllByRecursion}
 use Rattle.px_site.specs.declared.name.FileName.{FileName}
-use Rattle.px_site.specs.declared.name.FileName.TheVariants.{Rec, Row, Dlog, Xlog, Restart, Index, Ilog}
+use Rattle.px_site.specs.declared.name.FileName.TheVariants.{Dlog}
 use Rattle.px_site.specs.Disk.{IsImage}
-use Rattle.px_site.specs.Names.{is_before}
-use Rattle.px_site.specs.State.{IsNextFile, State}
+use Rattle.px_site.specs.State.{State}
 use Rattle.px_dlog.specs.declared.inventory.ClosedLog.{ClosedLog}
-use Rattle.px_dlog.specs.Finding.{AreLogsOf, IsNextLog}
+use Rattle.px_dlog.specs.Finding.{AreLogsOf, IsNextLog, with_log}
 use Rattle.px_dlog.specs.Inventory.{Rise, closed_len}
 use Rattle.px_dlog.specs.Logs.{IsDlogOf, LiesIn, Logs, Rests, Stored, is_unsynced, log_of}
 use Rattle.px_dlog.proofs.Numbers.{closed_push, none_past, rise_push}
 use Rattle.px_dlog.proofs.Resting.{rests_in_image}
 use Rattle.px_dlog.proofs.Searching.{rise_to}
 use Rattle.px_dlog.proofs.Syncing.{weaken}
-
--- ---- one listing
-
-listed : (after n : ℕ) → after < n → is_before (Dlog after) (Dlog n) ≡ true
-listed after n past = grind (arith, nat_tests)
-
-pub listed_past : (after n : ℕ) → is_before (Dlog after) (Dlog n) ≡ true → after < n
-listed_past after n is = grind (arith, nat_tests)
-
-pub next_is_log : (content : FileName → List ℕ) (after next : ℕ) → IsNextFile content (Some (Dlog after)) (Some (Dlog next)) → IsNextLog content after (Some next)
-next_is_log content after next is = λ n past before. is.1 (Dlog n) (listed after n past) (listed n next before)
-
-pub next_is_none : (content : FileName → List ℕ) (after : ℕ) → IsNextFile content (Some (Dlog after)) None → IsNextLog content after None
-next_is_none content after is = λ n past. is (Dlog n) (listed after n past)
-
--- a file of a later kind comes behind each data log
-pub next_is_other : (content : FileName → List ℕ) (after : ℕ) (next : FileName) → ((n : ℕ) → next ≢ Dlog n) → is_before (Dlog after) next ≡ true
-    → IsNextFile content (Some (Dlog after)) (Some next) → IsNextLog content after None
-next_is_other content after (Rec n) other before is = absurd (cc)
-next_is_other content after (Row n) other before is = absurd (cc)
-next_is_other content after (Dlog n) other before is = absurd (other n refl)
-next_is_other content after (Xlog n) other before is = λ m past. is.1 (Dlog m) (listed after m past) refl
-next_is_other content after (Restart n) other before is = λ m past. is.1 (Dlog m) (listed after m past) refl
-next_is_other content after Index other before is = λ m past. is.1 (Dlog m) (listed after m past) refl
-next_is_other content after Ilog other before is = λ m past. is.1 (Dlog m) (listed after m past) refl
 
 -- ---- those before
 
@@ -61,7 +35,7 @@ passed content logs last number n rise found next from below = by_test (nat_le n
         let past : last < n = grind (arith, nat_tests) in
         ap length (next n past below) ∙ sym (none_past 1 (last + 1) logs rise n (omega (arith, past)))
 
-pub found_more : (content : FileName → List ℕ) (logs : List ClosedLog) (last : ℕ) (log : ClosedLog) → Rise 1 (last + 1) logs → IsFoundTo content logs last → last < log.number
+found_more : (content : FileName → List ℕ) (logs : List ClosedLog) (last : ℕ) (log : ClosedLog) → Rise 1 (last + 1) logs → IsFoundTo content logs last → last < log.number
     → IsNextLog content last (Some log.number) → log.len ≡ length (content (Dlog log.number)) → IsFoundTo content (logs ++ log ∷ []) log.number
 found_more content logs last log rise found past next len = λ n from to. by_test n from to (nat_eq n log.number) refl
   where
@@ -76,11 +50,11 @@ found_more content logs last log rise found past next len = λ n from to. by_tes
         let below : n < log.number = grind (arith, nat_tests) in
         passed content logs last log.number n rise found next from below ∙ sym (closed_push 1 logs log to_it n ∙ ap (λ (t : Bool). cond t log.len (closed_len logs n)) is)
 
-pub rise_more : (logs : List ClosedLog) (last : ℕ) (log : ClosedLog) → Rise 1 (last + 1) logs → last < log.number → 1 ≤ log.len → Rise 1 (log.number + 1) (logs ++ log ∷ [])
+rise_more : (logs : List ClosedLog) (last : ℕ) (log : ClosedLog) → Rise 1 (last + 1) logs → last < log.number → 1 ≤ log.len → Rise 1 (log.number + 1) (logs ++ log ∷ [])
 rise_more logs last log rise past some = rise_push 1 (log.number + 1) logs log (rise_to 1 (last + 1) log.number logs (omega (arith, past)) rise) some (omega arith)
 
 -- a log that has no byte is none
-pub found_none : (content : FileName → List ℕ) (logs : List ClosedLog) (last number : ℕ) → Rise 1 (last + 1) logs → IsFoundTo content logs last → last < number
+found_none : (content : FileName → List ℕ) (logs : List ClosedLog) (last number : ℕ) → Rise 1 (last + 1) logs → IsFoundTo content logs last → last < number
     → IsNextLog content last (Some number) → length (content (Dlog number)) ≡ 0 → IsFoundTo content logs number
 found_none content logs last number rise found past next len = λ n from to. by_test n from to (nat_eq n number) refl
   where
@@ -91,6 +65,25 @@ found_none content logs last number rise found past next len = λ n from to. by_
     by_test n from to false is =
         let below : n < number = grind (arith, nat_tests) in
         passed content logs last number n rise found next from below
+
+pub found_next : (content : FileName → List ℕ) (logs : List ClosedLog) (last : ℕ) (log : ClosedLog) → Rise 1 (last + 1) logs → IsFoundTo content logs last → last < log.number
+    → IsNextLog content last (Some log.number) → log.len ≡ length (content (Dlog log.number)) → IsFoundTo content (with_log logs log) log.number
+found_next content logs last log rise found past next len = by_test (nat_eq log.len 0) refl
+  where
+    by_test : (b : Bool) → nat_eq log.len 0 ≡ b → IsFoundTo content (cond (nat_eq log.len 0) logs (logs ++ log ∷ [])) log.number
+    by_test true is =
+        let none : length (content (Dlog log.number)) ≡ 0 = let zero_is : log.len ≡ 0 = grind (arith, nat_tests) in sym len ∙ zero_is in
+        rw is (found_none content logs last log.number rise found past next none)
+    by_test false is = rw is (found_more content logs last log rise found past next len)
+
+pub rise_next : (logs : List ClosedLog) (last : ℕ) (log : ClosedLog) → Rise 1 (last + 1) logs → last < log.number → Rise 1 (log.number + 1) (with_log logs log)
+rise_next logs last log rise past = by_test (nat_eq log.len 0) refl
+  where
+    by_test : (b : Bool) → nat_eq log.len 0 ≡ b → Rise 1 (log.number + 1) (cond (nat_eq log.len 0) logs (logs ++ log ∷ []))
+    by_test true is = rw is (rise_to 1 (last + 1) (log.number + 1) logs (omega (arith, past)) rise)
+    by_test false is =
+        let some : 1 ≤ log.len = grind (arith, nat_tests) in
+        rw is (rise_more logs last log rise past some)
 
 pub all_found : (content : FileName → List ℕ) (logs : List ClosedLog) (last : ℕ) → Rise 1 (last + 1) logs → IsFoundTo content logs last → IsNextLog content last None → AreLogsOf content logs
 all_found content logs last rise found next = λ n from. by_test n from (nat_le n last) refl

@@ -1,17 +1,19 @@
 -- Closed logs before a number and behind it, and what a search by them finds.
-use Rattle.std.proofs.Common.{◌≡◌, ◌≢◌, ℕ, zero, suc, ◌+◌, ◌-◌, ◌<◌, ◌≤◌, nat_eq, nat_le, nat_lt, max, Bool, true, false, not, cond, List, [], ◌∷◌, ◌++◌, Option, Some, None, option_map, length, take, drop, get_or, ltb, ltb-false, ltb-true, refl, sym, ap, subst, ◌∙◌, arith}
+use Rattle.std.proofs.Common.{◌≡◌, ◌≢◌, ℕ, zero, suc, ◌+◌, ◌-◌, ◌<◌, ◌≤◌, nat_eq, nat_le, nat_lt, max, Bool, true, false, cond, Bor, List, [], ◌∷◌, ◌++◌, Option, Some, None, length, take, drop, get_or, ltb, ltb-false, ltb-true, refl, sym, ap, subst, ◌∙◌, arith}
 use Rattle.std.proofs.lemmas.Bool.Decides.{nat_tests}
 use Rattle.std.proofs.lemmas.List.{drop-drop, get_or-drop, get_or-take, length-drop, length-take, take-append-drop}
 use Rattle.std.proofs.lemmas.List.Elements.{recursion_from_All}
 use Rattle.std.specs.List.Sorted.{IsPartitionPoint}
 use Rattle.std.specs.Bool.{⊤}
-use Rattle.std.specs.Option.{IfNone, IfSome}
+use Rattle.std.specs.Option.{IfNone, IfSome, option_copied}
+use Rattle.std.specs.Slice.{IsItemAt}
+use Rattle.std.proofs.lemmas.Option.{slice_get_past, slice_get_read}
 use Rattle.std.specs.List.{AllByRecursion, slice_get}
 use Rattle.px_dlog.specs.declared.inventory.ClosedLog.{ClosedLog}
 use Rattle.px_dlog.specs.declared.inventory.CurrentLog.{CurrentLog}
 use Rattle.px_dlog.specs.Inventory.{AreInOrder, HasNoneFrom, IsFirstFrom, Rise, closed_len, len_in, logs_of}
-use Rattle.px_dlog.specs.Logs.{HasNonePast, IsClosed, IsLogPast, IsPast, IsWithout, Logs, extent_of, is_current}
-use Rattle.px_dlog.proofs.Numbers.{len_of_current, none_past, other_below, other_number, rise_le, same_number}
+use Rattle.px_dlog.specs.Logs.{IsClosed, IsLogPast, IsPast, IsWithout}
+use Rattle.px_dlog.proofs.Numbers.{none_past, other_below, other_number, rise_le, same_number}
 
 -- below the first number there is none
 pub none_below : (from to : ℕ) (logs : List ClosedLog) → Rise from to logs → (n : ℕ) → n < from → closed_len logs n ≡ 0
@@ -84,6 +86,11 @@ got_none [] zero is = refl
 got_none [] (suc at) is = refl
 got_none (first ∷ logs) zero is = absurd (cc)
 got_none (first ∷ logs) (suc at) is = got_none logs at is
+
+-- and what is read there
+pub got_item : (logs : List ClosedLog) (at : ℕ) (r : Option (Bor ClosedLog)) → IsItemAt logs at r → option_copied r ≡ slice_get logs at
+got_item logs at None item = sym (slice_get_past logs at item.3)
+got_item logs at (Some x) item = sym (slice_get_read logs (length logs) at x.now refl item.3.0 item.1)
 
 -- the number of a log from there on
 pub len_from : (logs : List ClosedLog) (number at n : ℕ) → IsCount logs number at → number ≤ n → closed_len logs n ≡ closed_len (drop at logs) n
@@ -186,91 +193,16 @@ next_is_closed closed current next after log order first =
       least = λ m past before. b.1.below m (omega (arith, below, before)) ∙ first.none_before m (omega (arith, past)) before;
     }
 
-pub next_is_current : (closed : List ClosedLog) (current : Option CurrentLog) (next after : ℕ) (log : CurrentLog) → AreInOrder closed current next → current ≡ Some log
-    → HasNoneFrom (after + 1) closed → after < log.number → IsLogPast after (logs_of record { closed = closed; current = current; next = next }) log.number
-next_is_current closed None next after log order here none past = absurd (cc)
-next_is_current closed (Some other) next after log order here none past =
-    let same : other ≡ log = cc in
-    let number : other.number ≡ log.number = ap (λ (l : CurrentLog). l.number) same in
-    let len : other.len ≡ log.len = ap (λ (l : CurrentLog). l.len) same in
-    let whole : len_in closed (Some other) log.number ≡ log.len = len_of_current closed (Some other) log here in
-    record {
-      past = past;
-      there = omega (arith, whole, len, order.1);
-      least = λ m above before.
-          ap (λ (t : Bool). cond t other.len (closed_len closed m)) (other_below m other.number (omega (arith, number, before))) ∙ none m (omega (arith, above));
-    }
-
-pub none_is_next : (closed : List ClosedLog) (current : Option CurrentLog) (next after : ℕ) → HasNoneFrom (after + 1) closed
-    → ((log : CurrentLog) → current ≡ Some log → log.number ≤ after) → HasNonePast after (logs_of record { closed = closed; current = current; next = next })
-none_is_next closed None next after none short = λ n past. none n (omega (arith, past))
-none_is_next closed (Some log) next after none short = λ n past.
-    let last : log.number ≤ after = short log refl in
-    ap (λ (t : Bool). cond t log.len (closed_len closed n)) (other_number n log.number (omega (arith, past, last))) ∙ none n (omega (arith, past))
-
--- ---- the bytes of a log
-
-extent_some : (logs : Logs) (number len : ℕ) (b : Bool) → logs.len number ≡ len → 1 ≤ len → is_current logs.current number ≡ b → extent_of logs number ≡ Some (len, not b)
-extent_some logs number len b len_is some is =
-    let there : nat_eq (logs.len number) 0 ≡ false = grind (arith, nat_tests) in
-    ap (λ (t : Bool). cond t None (Some (logs.len number, not (is_current logs.current number)))) there
-    ∙ ap (λ (n : ℕ). Some (n, not (is_current logs.current number))) len_is ∙ ap (λ (t : Bool). Some (len, not t)) is
-
-extent_none : (logs : Logs) (number : ℕ) → logs.len number ≡ 0 → extent_of logs number ≡ None
-extent_none logs number is = let none : nat_eq (logs.len number) 0 ≡ true = grind (arith, nat_tests) in
-    ap (λ (t : Bool). cond t None (Some (logs.len number, not (is_current logs.current number)))) none
-
-pub extent_of_current : (closed : List ClosedLog) (current : Option CurrentLog) (next number : ℕ) (log : CurrentLog) → AreInOrder closed current next → current ≡ Some log → log.number ≡ number
-    → Some (log.len, false) ≡ extent_of (logs_of record { closed = closed; current = current; next = next }) number
-extent_of_current closed None next number log order is here = absurd (cc)
-extent_of_current closed (Some other) next number log order is here =
-    let same : other ≡ log = cc in
-    let own : other.number ≡ log.number = ap (λ (l : CurrentLog). l.number) same in
-    let len : other.len ≡ log.len = ap (λ (l : CurrentLog). l.len) same in
-    let whole : len_in closed (Some other) number ≡ log.len = subst (λ (n : ℕ). len_in closed (Some other) n ≡ log.len) here (len_of_current closed (Some other) log is) in
-    let equal : nat_eq number other.number ≡ true = grind (arith, nat_tests) in
-    sym (extent_some (logs_of record { closed = closed; current = Some other; next = next }) number log.len true whole (omega (arith, len, order.1)) equal)
+-- ---- a closed log removed
 
 -- the current log has another number
-pub IsOther : Option CurrentLog → ℕ → Type 0
+abbrev pub IsOther : Option CurrentLog → ℕ → Type 0
 IsOther None number = ⊤
 IsOther (Some log) number = nat_eq number log.number ≡ false
 
-pub other_len : (closed : List ClosedLog) (current : Option CurrentLog) (number : ℕ) → IsOther current number → len_in closed current number ≡ closed_len closed number
+other_len : (closed : List ClosedLog) (current : Option CurrentLog) (number : ℕ) → IsOther current number → len_in closed current number ≡ closed_len closed number
 other_len closed None number other = refl
 other_len closed (Some log) number other = ap (λ (t : Bool). cond t log.len (closed_len closed number)) other
-
-other_current : (current : Option CurrentLog) (number : ℕ) → IsOther current number → is_current (option_map (λ log. log.number) current) number ≡ false
-other_current None number other = refl
-other_current (Some log) number other = other
-
-pub extent_of_none : (closed : List ClosedLog) (current : Option CurrentLog) (next number : ℕ) → IsOther current number → closed_len closed number ≡ 0
-    → None ≡ extent_of (logs_of record { closed = closed; current = current; next = next }) number
-extent_of_none closed current next number other none =
-    sym (extent_none (logs_of record { closed = closed; current = current; next = next }) number (other_len closed current number other ∙ none))
-
-pub extent_of_closed : (closed : List ClosedLog) (current : Option CurrentLog) (next number : ℕ) (log : ClosedLog) → IsOther current number → IsFirstFrom number closed log → log.number ≡ number
-    → Some (log.len, true) ≡ extent_of (logs_of record { closed = closed; current = current; next = next }) number
-extent_of_closed closed current next number log other first here =
-    sym (extent_some (logs_of record { closed = closed; current = current; next = next }) number log.len false
-    (other_len closed current number other ∙ ap (closed_len closed) (sym here) ∙ first.there) first.some (other_current current number other))
-
--- another one is the first
-pub extent_elsewhere : (closed : List ClosedLog) (current : Option CurrentLog) (next number : ℕ) (log : ClosedLog) → IsOther current number → IsFirstFrom number closed log → log.number ≢ number
-    → None ≡ extent_of (logs_of record { closed = closed; current = current; next = next }) number
-extent_elsewhere closed current next number log other first away = extent_of_none closed current next number other (first.none_before number (omega arith) below)
-  where
-    below : number < log.number
-    below = by_test (nat_lt number log.number) refl
-      where
-        by_test : (t : Bool) → nat_lt number log.number ≡ t → number < log.number
-        by_test true is = grind (arith, nat_tests)
-        by_test false is =
-            let most : log.number ≤ number = grind (arith, nat_tests) in
-            let same : log.number ≡ number = omega (arith, most, first.from) in
-            absurd (away same)
-
--- ---- a closed log removed
 
 -- where a closed log stands
 pub record StandsAt (closed : List ClosedLog) (number at : ℕ) : Type 0 where
@@ -409,18 +341,16 @@ past_none closed named next none next_is = record {
 }
 
 -- the number of the last log; 0 where there is none
-pub last_number : Option ClosedLog → ℕ
+abbrev pub last_number : Option ClosedLog → ℕ
 last_number None = 0
 last_number (Some log) = log.number
 
 pub past_found : (closed : List ClosedLog) (named next to : ℕ) (r : Option ClosedLog) → Rise 1 to closed → r ≡ slice_get closed (length closed - 1) → next ≡ max (last_number r) named + 1
     → IsPast named (logs_of record { closed = closed; current = None; next = next })
-unfolding last_number
 past_found closed named next to None rise is next_is = past_none closed named next (no_last closed (sym is)) (omega (arith, next_is))
 past_found closed named next to (Some log) rise is next_is = past_last closed named next to log rise (sym is) next_is
 
 pub order_found : (closed : List ClosedLog) (named next to : ℕ) (r : Option ClosedLog) → Rise 1 to closed → r ≡ slice_get closed (length closed - 1) → next ≡ max (last_number r) named + 1 → Rise 1 next closed
-unfolding last_number
 order_found closed named next to None rise is next_is = subst (Rise 1 next) (sym (no_last closed (sym is))) (omega (arith, next_is))
 order_found closed named next to (Some log) rise is next_is =
     rise_to 1 (log.number + 1) next closed (omega (arith, next_is)) (rise_to_last 1 to closed log rise (sym is)).0

@@ -1,5 +1,5 @@
 -- Data logs as a listing of the site finds them.
-use Rattle.std.specs.Prelude.{◌≡◌, ℕ, ◌<◌, ◌≤◌, List, [], length, Option, Some, None}
+use Rattle.std.specs.Prelude.{◌≡◌, ℕ, ◌<◌, ◌≤◌, ◌==◌, List, [], ◌∷◌, ◌++◌, length, Option, Some, None, if◌then◌else◌}
 use Rattle.px_site.specs.declared.name.FileName.{FileName}
 use Rattle.px_site.specs.declared.name.FileName.TheVariants.{Dlog}
 use Rattle.px_dlog.specs.declared.inventory.ClosedLog.{ClosedLog}
@@ -13,3 +13,7 @@ IsNextLog content after (Some next) = (n : ℕ) → after < n → n < next → c
 -- the logs are those of these contents
 abbrev pub AreLogsOf : (FileName → List ℕ) → List ClosedLog → Type 0
 AreLogsOf content logs = (n : ℕ) → 1 ≤ n → length (content (Dlog n)) ≡ closed_len logs n
+
+-- one more behind them, where it has a byte
+abbrev pub with_log : List ClosedLog → ClosedLog → List ClosedLog
+with_log logs log = if log.len == 0 then logs else logs ++ log ∷ []

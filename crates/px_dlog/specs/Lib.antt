@@ -1,3 +1,4 @@
+pub mod Body
 pub mod Errors
 pub mod Finding
 pub mod Header

@@ -1,4 +1,4 @@
-use Rattle.std.proofs.Common.{◌≡◌, ◌+◌, ◌-◌, ◌^◌}
+use Rattle.std.proofs.Common.{◌≡◌, ◌+◌, ◌-◌, ◌^◌, ◌<◌}
 use Rattle.px_site.specs.Cause.{NoneFell}
 use Rattle.px_dlog.specs.Inventory.{Rise}
 use Rattle.px_dlog.proofs.Listing.{IsFoundTo}
@@ -9,6 +9,7 @@ abbrev pub invariant-loop-logs : goal.invariant-loop-logs
 invariant-loop-logs g l =
     let state = g.W.Site.state in
     record {
+      small : l.last < 2 ^ 32;
       rise : Rise 1 (l.last + 1) l.logs.items;
       found : g.W.Site.tells → IsFoundTo (state l.fn.site).content l.logs.items l.last;
       same : g.W.Site.tells → state l.site ≡ state l.fn.site;

@@ -1,5 +1,5 @@
-use Rattle.std.proofs.Common.{sym, subst}
-use Rattle.px_dlog.specs.Inventory.{Kept, logs_of}
+use Rattle.std.proofs.Common.{subst}
+use Rattle.px_dlog.specs.Inventory.{Kept, kept_of, logs_of}
 use Rattle.px_dlog.specs.Logs.{IsWithout}
 use Rattle.px_dlog.proofs.Removing.{removal_moments, removed_dlog}
 use Rattle.px_dlog.proofs.dlogs.Dlogs.remove.Goals as goal
@@ -12,5 +12,6 @@ returns-clause-moments g c = λ t. removal_moments c.args.log _ _ (c.remove.ensu
 
 pub returns-clause-removed : goal.returns-clause-removed
 returns-clause-removed g c = λ t parts is.
-    removed_dlog c.args.log (logs_of c.args.self.now) _ parts _ _ (c.in_ok-remove.ensures.moves t)
-    (subst (λ (k : Kept). IsWithout c.args.log (logs_of k) _) c.self.view_is c.remove-2.ensures.logs) is
+    let now = logs_of (kept_of c.remove-2.new.self) in
+    removed_dlog c.args.log (logs_of c.args.self.now) now parts _ _ (c.in_ok-remove.ensures.moves t)
+    (subst (λ (k : Kept). IsWithout c.args.log (logs_of k) now) c.self.view_is c.remove-2.ensures.logs) is
