@@ -231,8 +231,12 @@ there_or_not closed current next number at log ys order count here some false aw
     let not_before = subst (AllByRecursion (λ (l : ClosedLog). number ≤ l.number)) here count.not_before in
     let first : number ≤ log.number = not_before.0 in
     let below : number < log.number = grind (arith, nat_tests) in
-    absurd (omega (arith, some, len_from closed number at number count (omega arith) ∙ ap (λ (l : List ClosedLog). closed_len l number) here
-    ∙ none_below log.number b.0 (log ∷ ys) (omega arith, there.0, there.1) number below))
+    absurd (omega (
+      arith,
+      some,
+      len_from closed number at number count (omega arith) ∙ ap (λ (l : List ClosedLog). closed_len l number) here
+          ∙ none_below log.number b.0 (log ∷ ys) (omega arith, there.0, there.1) number below,
+    ))
 
 pub stands : (closed : List ClosedLog) (current : Option CurrentLog) (next number at : ℕ) → AreInOrder closed current next
     → IsClosed (logs_of record { closed = closed; current = current; next = next }) number → IsCount closed number at → StandsAt closed number at

@@ -159,7 +159,10 @@ fn the_logs_of_a_store_that_was_left_are_found(rt: HostRuntime) -> Result<(), Fa
     let mut site = MemSite::new(alloc)?;
     let mut first = Dlogs::new(alloc);
     let part = filled(alloc, &mut first, &mut site)?;
-    assert_eq!(rt; listing(alloc, &first)?.as_slice(), [(1, LOG_SIZE, true), (2, 17, false)].as_slice());
+    assert_eq!(rt;
+        listing(alloc, &first)?.as_slice(),
+        [(1, LOG_SIZE, true), (2, 17, false)].as_slice()
+    );
     let mut dlogs = Dlogs::load(alloc, &mut site, 0)?;
     assert_eq!(rt; read(&rt, alloc, &dlogs, &mut site, &part)?, 1);
     let next = append(alloc, &mut dlogs, &mut site, 2)?;
@@ -180,13 +183,19 @@ fn a_log_begins_past_those_that_were_named(rt: HostRuntime) -> Result<(), Fail> 
         site.put_file(FileName::Dlog(2), b"any bytes")?;
         site.put_file(FileName::Dlog(5), b"others")?;
         let mut dlogs = Dlogs::load(alloc, &mut site, named)?;
-        assert_eq!(rt; listing(alloc, &dlogs)?.as_slice(), [(2, 9, true), (5, 6, true)].as_slice());
+        assert_eq!(rt;
+            listing(alloc, &dlogs)?.as_slice(),
+            [(2, 9, true), (5, 6, true)].as_slice()
+        );
         assert_eq!(rt; append(alloc, &mut dlogs, &mut site, 1)?.log, number);
     }
     let mut site = MemSite::new(alloc)?;
     let mut dlogs = Dlogs::load(alloc, &mut site, u32::MAX)?;
     assert_eq!(rt; dlogs.full(), Some(1 << 32));
-    assert_eq!(rt; append(alloc, &mut dlogs, &mut site, 1), Err(LogError::LogFull(1 << 32)));
+    assert_eq!(rt;
+        append(alloc, &mut dlogs, &mut site, 1),
+        Err(LogError::LogFull(1 << 32))
+    );
     Ok(())
 }
 
@@ -235,7 +244,10 @@ fn a_closed_log_is_removed(rt: HostRuntime) -> Result<(), Fail> {
     let mut dlogs = Dlogs::new(alloc);
     let part = filled(alloc, &mut dlogs, &mut site)?;
     assert!(rt; remove(&mut dlogs, &mut site, 1)?);
-    assert_eq!(rt; listing(alloc, &dlogs)?.as_slice(), [(2, 17, false)].as_slice());
+    assert_eq!(rt;
+        listing(alloc, &dlogs)?.as_slice(),
+        [(2, 17, false)].as_slice()
+    );
     assert_eq!(rt; site.content(FIRST).len(), 0);
     assert_eq!(rt; read(&rt, alloc, &dlogs, &mut site, &part)?, 1);
     // one that isn't there, and the current one
@@ -267,7 +279,10 @@ fn the_fault_of_a_load_or_a_removal_is_answered(rt: HostRuntime) -> Result<(), F
         (3, Fault::Remove),
     ];
     for (call, fault) in table {
-        assert_eq!(rt; until_a_call_fails(rt.alloc(), call)?, LogError::Fault(fault));
+        assert_eq!(rt;
+            until_a_call_fails(rt.alloc(), call)?,
+            LogError::Fault(fault)
+        );
     }
     Ok(())
 }

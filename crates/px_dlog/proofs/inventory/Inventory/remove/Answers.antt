@@ -1,4 +1,4 @@
-use Rattle.std.proofs.Common.{ℕ, subst}
+use Rattle.std.proofs.Common.{ℕ, subst, arith}
 use Rattle.px_dlog.proofs.Searching.{IsCount, removes, stands}
 use Rattle.px_dlog.proofs.inventory.Inventory.remove.Goals as goal
 
@@ -7,7 +7,8 @@ remove-requires c =
     let closed = c.args.self.now.closed.items in
     let at = c.count_before-at.result in
     let count = subst (λ (n : ℕ). IsCount closed n at) c.from.ensures (record { before = c.count_before-at.ensures.before; not_before = c.count_before-at.ensures.not_before }) in
-    (stands closed c.args.self.now.current c.args.self.now.next c.args.number at c.requires.sound.order c.requires.closed count).within
+    let stand = stands closed c.args.self.now.current c.args.self.now.next c.args.number at c.requires.sound.order c.requires.closed count in
+    omega (arith, stand.within, c.args.self.now.closed.ok)
 
 pub returns-clause-logs : goal.returns-clause-logs
 returns-clause-logs c =
