@@ -1,9 +1,9 @@
 // A part read again.
-ghost use Rattle.std.specs.Prelude.{◌≡◌, ◌++◌, ◌+◌, ◌≤◌, ℕ, List, length, take, drop, IfOk, IfErr, OnOk, OnErr};
+ghost use Rattle.std.specs.Prelude.{◌≡◌, length, IfErr, OnOk, OnErr};
 ghost use Rattle.px_site.specs.Cause.{NoneFell};
 ghost use Rattle.px_site.specs.declared.name.FileName.{FileName};
-ghost use Rattle.px_dlog.specs.Errors.{FindsNoPart, HasReadCause, IsPassing};
-ghost use Rattle.px_dlog.specs.Logs.{LiesIn, Reads, Stored};
+ghost use Rattle.px_dlog.specs.Errors.{FindsNoPart, HasReadCause};
+ghost use Rattle.px_dlog.specs.Logs.{Reads};
 
 use crate::part::{LONGEST_PART, check_part, part_size};
 use crate::{Dlogs, LogError, PartRef};

@@ -1,5 +1,5 @@
 // A log removed.
-ghost use Rattle.std.specs.Prelude.{◌≡◌, ℕ, false, List, IfErr, OnOk, OnErr};
+ghost use Rattle.std.specs.Prelude.{◌≡◌, false, List, IfErr, OnOk, OnErr};
 ghost use Rattle.px_site.specs.Cause.{NoneFell};
 ghost use Rattle.px_site.specs.Names.{same_file};
 ghost use Rattle.px_site.specs.State.{EachMoment};

@@ -1,8 +1,8 @@
 // The current log made durable.
-ghost use Rattle.std.specs.Prelude.{◌≡◌, ℕ, false, List, None, IfErr, OnOk, OnErr};
+ghost use Rattle.std.specs.Prelude.{◌≡◌, false, List, None, IfErr, OnOk, OnErr};
 ghost use Rattle.std.specs.List.{AllByRecursion};
 ghost use Rattle.px_site.specs.Cause.{HasCause, IsOwn, NoneFell};
-ghost use Rattle.px_site.specs.State.{EachMoment, OnShort};
+ghost use Rattle.px_site.specs.State.{EachMoment};
 ghost use Rattle.px_site.specs.declared.error.Fault.{Fault};
 ghost use Rattle.px_site.specs.declared.name.FileName.{FileName};
 ghost use Rattle.px_dlog.specs.Errors.{HasCauseOf, UnlessFault};

@@ -1,9 +1,9 @@
-use Rattle.std.proofs.Common.{◌≡◌, ◌+◌, ◌^◌, ◌<◌, ℕ, List, None, Some, length, refl, sym, subst, ◌∙◌, arith}
+use Rattle.std.proofs.Common.{◌≡◌, ◌+◌, ◌^◌, ◌<◌, List, None, Some, length, sym, subst, ◌∙◌, arith}
 use Rattle.px_site.specs.State.{State}
 use Rattle.px_site.specs.declared.name.FileName.TheVariants.{Dlog}
 use Rattle.px_site.proofs.Causes.{then_none_fell}
 use Rattle.px_dlog.specs.declared.inventory.ClosedLog.{ClosedLog}
-use Rattle.px_dlog.specs.Finding.{IsNextLog, with_log}
+use Rattle.px_dlog.specs.Finding.{IsNextLog}
 use Rattle.px_dlog.specs.Inventory.{Rise}
 use Rattle.px_dlog.proofs.Listing.{IsFoundTo, all_found, found_next, rise_next}
 use Rattle.px_dlog.proofs.Searching.{rise_to}

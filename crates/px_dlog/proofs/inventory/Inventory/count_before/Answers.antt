@@ -1,4 +1,4 @@
-use Rattle.std.proofs.Common.{◌≡◌, Bool, true, false, List, ltb, rules, sym, subst}
+use Rattle.std.proofs.Common.{◌≡◌, true, false, List, ltb, rules, sym, subst}
 use Rattle.std.specs.List.Sorted.{IsPartitionPoint, IsPartitionedBy}
 use Rattle.std.proofs.lemmas.List.Sorted.{IsPartitionPoint-from_clause, IsPartitionedBy-ltb}
 use Rattle.px_dlog.specs.declared.inventory.ClosedLog.{ClosedLog}
