@@ -1,9 +1,10 @@
 -- What an append does to parts and moments.
-use Rattle.std.proofs.Common.{◌≡◌, ◌≢◌, ℕ, ◌+◌, ◌-◌, ◌<◌, ◌≤◌, nat_eq, nat_le, Bool, true, false, cond, ◌&&◌, List, ◌∷◌, ◌++◌, Option, Some, None, Result, Ok, length, take, drop, replicate, refl, sym, ap, subst, ◌∙◌, arith}
+use Rattle.std.proofs.Common.{◌≡◌, ◌≢◌, ℕ, ◌+◌, ◌-◌, ◌<◌, ◌≤◌, nat_eq, nat_le, Bool, true, false, cond, ◌&&◌, List, ◌∷◌, ◌++◌, Option, Some, None, Result, Ok, Err, length, take, drop, replicate, refl, sym, ap, subst, ◌∙◌, arith}
 use Rattle.std.specs.List.{AllByRecursion}
 use Rattle.std.proofs.lemmas.Bool.Decides.{nat_tests}
 use Rattle.std.proofs.lemmas.List.{append-nil, drop-append-le, drop_all, drop_at, length-append, length-drop, take-append-le, take_all, take_at}
 use Rattle.px_site.specs.declared.error.SiteError.{SiteError}
+use Rattle.px_site.specs.declared.error.SiteError.TheVariants.{OutOfMemory as SiteShort, Fault as SiteFault}
 use Rattle.px_site.specs.declared.name.FileName.{FileName}
 use Rattle.px_site.specs.declared.name.FileName.TheVariants.{Dlog}
 use Rattle.px_site.specs.Disk.{Change, FileState, IsImage, Wrote, at_rest, overlay, pending_more, touches}
@@ -11,6 +12,9 @@ use Rattle.px_site.specs.Names.{same_file, kind}
 use Rattle.px_site.specs.State.{Changes, EachMoment, State, begun, with_file}
 use Rattle.px_site.proofs.Files.{same_file_is, with_file_other, with_file_same}
 use Rattle.px_site.proofs.Moments.{change_moments, then_moments}
+use Rattle.px_dlog.specs.declared.error.LogError.{LogError}
+use Rattle.px_dlog.specs.declared.error.LogError.TheVariants.{OutOfMemory, Fault as FaultOf, Damaged, LogFull}
+use Rattle.px_dlog.specs.Errors.{UnlessFault, of_site}
 use Rattle.px_dlog.specs.Part.{part_size, part_text}
 use Rattle.px_dlog.specs.Logs.{IsDlogOf, IsEnd, IsGrown, IsPart, KeepsParts, LiesIn, Logs, Rests, RestsIn, Stored, SyncsLog, end_of, is_unsynced, is_unsynced_in, log_of, to_close, to_sync}
 use Rattle.px_dlog.specs.Inventory.{Kept, logs_of}
@@ -219,3 +223,35 @@ grown_from {kept} {now} {logs} {log} {size} {count} same sized grown =
 
 pub at_place : {T : Type 0} {r : Result T SiteError} {name : FileName} {place at : ℕ} {bytes : List ℕ} {a b : State} → at ≡ place → Changes name (Wrote at bytes) a b r → Changes name (Wrote place bytes) a b r
 at_place {T} {r} {name} {place} {at} {bytes} {a} {b} same moves = subst (λ (p : ℕ). Changes name (Wrote p bytes) a b r) same moves
+
+-- ---- after an error
+
+-- a sync that succeeded leaves the logs their parts
+pub synced_keeps : {T : Type 0} (x : T) (to : Option ℕ) (logs : Logs) (parts : List Stored) (a b : State) → ((name : FileName) → IsImage (a.now.files name) (a.content name)) → SyncsLog {T = T} to a b (Ok x)
+    → ((name : FileName) → b.content name ≡ a.content name) → IsDlogOf logs parts a → IsDlogOf logs parts b
+synced_keeps x to logs parts a b images syncs contents is =
+    let after = is_synced x to a b images syncs in
+    record {
+      lengths = λ n from. ap length (contents (Dlog n)) ∙ is.lengths n from;
+      lie = weaken (λ stored. LiesIn (a.content (log_of stored)) stored) (λ stored. LiesIn (b.content (log_of stored)) stored)
+          (λ stored lies. subst (λ (content : List ℕ). LiesIn content stored) (sym (contents (log_of stored))) lies) parts is.lie;
+      rest = weaken (λ stored. is_unsynced logs stored.part.log ≡ false → Rests a.now stored) (λ stored. is_unsynced logs stored.part.log ≡ false → Rests b.now stored)
+          (λ stored rest none. after.rest stored (rest none)) parts is.rest;
+    }
+
+-- a call that wanted memory did nothing
+pub sync_unspoiled : (T : Type 0) (to : Option ℕ) (a b : State) (e : SiteError) → SyncsLog {T = T} to a b (Err e) → UnlessFault (b ≡ a) (of_site e)
+sync_unspoiled T None a b SiteShort same = same
+sync_unspoiled T None a b (SiteFault fault) same = tt
+sync_unspoiled T (Some log) a b SiteShort syncs = syncs.short
+sync_unspoiled T (Some log) a b (SiteFault fault) syncs = tt
+
+pub change_unspoiled : {T : Type 0} {file : FileName} {change : Change} (a b : State) (e : SiteError) → Changes {T = T} file change a b (Err e) → UnlessFault (b ≡ a) (of_site e)
+change_unspoiled a b SiteShort moves = moves.short
+change_unspoiled a b (SiteFault fault) moves = tt
+
+pub unless_fault : (P Q : Type 0) (e : LogError) → (P → Q) → UnlessFault P e → UnlessFault Q e
+unless_fault P Q OutOfMemory f holds = f holds
+unless_fault P Q (FaultOf fault) f holds = tt
+unless_fault P Q (Damaged file place) f holds = f holds
+unless_fault P Q (LogFull n) f holds = f holds

@@ -1,6 +1,10 @@
 pub mod Appending
+pub mod Bodies
+pub mod Listing
 pub mod Numbers
 pub mod Parts
 pub mod Reading
+pub mod Removing
 pub mod Resting
+pub mod Searching
 pub mod Syncing

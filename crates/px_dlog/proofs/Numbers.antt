@@ -11,10 +11,10 @@ pub rise_le : (from to : ℕ) (logs : List ClosedLog) → Rise from to logs → 
 rise_le from to [] rise = rise
 rise_le from to (log ∷ logs) rise = omega (arith, rise.0, rise_le (log.number + 1) to logs rise.2)
 
-other_number : (n m : ℕ) → m < n → nat_eq n m ≡ false
+pub other_number : (n m : ℕ) → m < n → nat_eq n m ≡ false
 other_number n m lt = grind (arith, nat_tests)
 
-other_below : (n m : ℕ) → n < m → nat_eq n m ≡ false
+pub other_below : (n m : ℕ) → n < m → nat_eq n m ≡ false
 other_below n m lt = grind (arith, nat_tests)
 
 -- past the last number there is none
@@ -42,7 +42,7 @@ current_from_one closed (Some other) next log order is =
     let len : other.len ≡ log.len = ap (λ (l : CurrentLog). l.len) same in
     (omega (arith, rise_le 1 other.number closed order.0), omega (arith, order.1))
 
-same_number : (n : ℕ) → nat_eq n n ≡ true
+pub same_number : (n : ℕ) → nat_eq n n ≡ true
 same_number n = grind (arith, nat_tests)
 
 -- the length of the current log

@@ -1,12 +1,15 @@
 -- Parts that rest, and what a crash and a sync leave of them.
-use Rattle.std.proofs.Common.{◌≡◌, ℕ, ◌+◌, ◌-◌, ◌<◌, ◌≤◌, List, ◌++◌, length, take, drop, get_or, refl, sym, ap, ◌∙◌, arith}
+use Rattle.std.proofs.Common.{◌≡◌, ◌≢◌, ℕ, ◌+◌, ◌-◌, ◌<◌, ◌≤◌, List, [], ◌∷◌, ◌++◌, length, take, drop, get_or, refl, sym, ap, subst, ◌∙◌, arith}
+use Rattle.std.specs.List.{AllByRecursion}
 use Rattle.std.proofs.lemmas.Grind.{same_number_lists}
 use Rattle.std.proofs.lemmas.List.{get_or-drop, get_or-take, length-drop, length-take, take-append-drop}
 use Rattle.px_site.specs.Disk.{FileState, IsImage, at_rest, least}
+use Rattle.px_site.specs.State.{EachMoment, Moment, State, history}
 use Rattle.px_site.proofs.Images.{untouched_within}
+use Rattle.px_dlog.specs.Errors.{HasNoPart}
 use Rattle.px_dlog.specs.Part.{PartAt, part_size, part_text}
-use Rattle.px_dlog.specs.Logs.{Stored, LiesIn, RestsIn, end_of}
-use Rattle.px_dlog.proofs.Parts.{length-part}
+use Rattle.px_dlog.specs.Logs.{KeepsOutside, KeepsParts, LiesIn, Reads, Rests, RestsIn, Stored, end_of}
+use Rattle.px_dlog.proofs.Parts.{length-part, one_text}
 
 -- a list that has the same numbers from a place on has the same bytes there
 same_part : (a b : List ℕ) (place count : ℕ) → place + count ≤ length a → place + count ≤ length b → ((k : ℕ) → k < count → get_or a (place + k) 0 ≡ get_or b (place + k) 0)
@@ -65,3 +68,36 @@ lies_read content stored lies =
       front = sym (take-append-drop (part_size stored.part.length) rest) ∙ ap (λ (l : List ℕ). l ++ drop (part_size stored.part.length) rest) lies.there
           ∙ ap (λ (n : ℕ). text ++ drop n rest) size;
     }
+
+-- ---- what was appended is read
+
+pub appended_read : (stored : Stored) (content before after : List ℕ) → LiesIn content stored → Reads stored.part content before after → after ≡ before ++ stored.bytes
+appended_read stored content before after lies reads =
+    let one = one_text (drop stored.part.place content) stored.part.table stored.part.table stored.part.slot stored.part.slot reads.bytes stored.bytes reads.checks (lies_read content stored lies) in
+    reads.behind ∙ ap (λ (l : List ℕ). before ++ l) one.2
+
+pub appended_sound : (stored : Stored) (content : List ℕ) → LiesIn content stored → HasNoPart stored.part content → ⊥
+appended_sound stored content lies none = none stored.bytes lies.is_part.length_is (lies_read content stored lies)
+
+-- ---- moments
+
+-- what holds at each moment holds at the last one
+at_last : (P : Moment → Type 0) (a b : State) (added : List Moment) → history b ≡ added ++ history a → AllByRecursion P added → P a.now → P b.now
+at_last P a b [] grown each first = let same : b.now ≡ a.now = cc in subst P (sym same) first
+at_last P a b (m ∷ added) grown each first = let same : b.now ≡ m = cc in subst P (sym same) each.0
+
+pub rested_rests : (a b : State) (stored : Stored) → EachMoment (KeepsParts a.now) a b → Rests a.now stored → Rests b.now stored
+rested_rests a b stored moments rests =
+    at_last (λ m. Rests m stored) a b moments.added moments.grown (each moments.added moments.each) rests
+  where
+    each : (added : List Moment) → AllByRecursion (KeepsParts a.now) added → AllByRecursion (λ m. Rests m stored) added
+    each [] keeps = tt
+    each (m ∷ added) keeps = (keeps.0.rest stored rests, each added keeps.1)
+
+pub others_rested : (log : ℕ) (a b : State) (stored : Stored) → EachMoment (KeepsOutside log a.now) a b → stored.part.log ≢ log → Rests a.now stored → Rests b.now stored
+others_rested log a b stored moments away rests =
+    at_last (λ m. Rests m stored) a b moments.added moments.grown (each moments.added moments.each) rests
+  where
+    each : (added : List Moment) → AllByRecursion (KeepsOutside log a.now) added → AllByRecursion (λ m. Rests m stored) added
+    each [] keeps = tt
+    each (m ∷ added) keeps = (keeps.0.rest stored away rests, each added keeps.1)

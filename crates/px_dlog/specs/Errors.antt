@@ -1,8 +1,9 @@
 -- What errors of the data logs say, and what they leave.
-use Rattle.std.specs.Prelude.{◌≡◌, ◌≢◌, ◌⊎◌, ⊤, ℕ, List, length, drop, Some}
+use Rattle.std.specs.Prelude.{◌≡◌, ◌⊎◌, ⊤, ℕ, List, length, drop, Option, Some, Ok}
 use Rattle.px_site.specs.Cause.{Counts, Rose}
 use Rattle.px_site.specs.State.{State}
-use Rattle.px_site.specs.declared.error.Fault.TheVariants.{Read, Tell}
+use Rattle.px_site.specs.declared.error.Fault.{Fault}
+use Rattle.px_site.specs.declared.error.Fault.TheVariants.{List as Listing, Read, Sync, Write}
 use Rattle.px_site.specs.declared.error.SiteError.{SiteError}
 use Rattle.px_site.specs.declared.error.SiteError.TheVariants.{OutOfMemory as SiteShort, Fault as SiteFault}
 use Rattle.px_site.specs.declared.name.FileName.TheVariants.{Dlog}
@@ -10,25 +11,39 @@ use Rattle.px_dlog.specs.declared.error.LogError.{LogError}
 use Rattle.px_dlog.specs.declared.error.LogError.TheVariants.{OutOfMemory, Fault as FaultOf, Damaged, LogFull}
 use Rattle.px_dlog.specs.declared.part_ref.PartRef.{PartRef}
 use Rattle.px_dlog.specs.Part.{PartAt}
-use Rattle.px_dlog.specs.Logs.{Logs, full_at}
+use Rattle.px_dlog.specs.Logs.{Logs, SyncsLog, full_at}
 
 abbrev pub of_site : SiteError → LogError
 of_site SiteShort = OutOfMemory
 of_site (SiteFault fault) = FaultOf fault
 
--- a fault was counted, and no place is damaged; LogFull says the number that no log may have
+-- P holds, but where a call of the site failed
+abbrev pub UnlessFault : Type 0 → LogError → Type 0
+UnlessFault P OutOfMemory = P
+UnlessFault P (FaultOf fault) = ⊤
+UnlessFault P (Damaged file place) = P
+UnlessFault P (LogFull n) = P
+
+-- a fault is one of a write or a sync, and was counted; LogFull says the number that no log may have
 abbrev pub HasCause : Logs → Counts → Counts → LogError → Type 0
 HasCause logs old new OutOfMemory = ⊤
-HasCause logs old new (FaultOf fault) = Rose (old.faults fault) (new.faults fault)
+HasCause logs old new (FaultOf fault) = ((fault ≡ Write) ⊎ (fault ≡ Sync)) × Rose (old.faults fault) (new.faults fault)
 HasCause logs old new (Damaged file place) = ⊥
 HasCause logs old new (LogFull n) = full_at logs ≡ Some n
 
--- a fault was counted, and it is the only cause beside want of memory
-abbrev pub HasFaultCause : Counts → Counts → LogError → Type 0
-HasFaultCause old new OutOfMemory = ⊤
-HasFaultCause old new (FaultOf fault) = (fault ≢ Tell) × Rose (old.faults fault) (new.faults fault)
-HasFaultCause old new (Damaged file place) = ⊥
-HasFaultCause old new (LogFull n) = ⊥
+-- a fault is one of this kind, and was counted; it is the only cause beside want of memory
+abbrev pub HasCauseOf : Fault → Counts → Counts → LogError → Type 0
+HasCauseOf kind old new OutOfMemory = ⊤
+HasCauseOf kind old new (FaultOf fault) = (fault ≡ kind) × Rose (old.faults kind) (new.faults kind)
+HasCauseOf kind old new (Damaged file place) = ⊥
+HasCauseOf kind old new (LogFull n) = ⊥
+
+-- a fault is one of a listing or a read, and was counted; it is the only cause beside want of memory
+abbrev pub HasListCause : Counts → Counts → LogError → Type 0
+HasListCause old new OutOfMemory = ⊤
+HasListCause old new (FaultOf fault) = ((fault ≡ Listing) ⊎ (fault ≡ Read)) × Rose (old.faults fault) (new.faults fault)
+HasListCause old new (Damaged file place) = ⊥
+HasListCause old new (LogFull n) = ⊥
 
 -- a fault is one of a read, and was counted
 abbrev pub HasReadCause : Counts → Counts → LogError → Type 0
@@ -55,9 +70,9 @@ IsPassing (FaultOf fault) = ⊤
 IsPassing (Damaged file place) = ⊥
 IsPassing (LogFull n) = ⊤
 
--- the site changed only at a fault, or where the site wanted memory
-abbrev pub LeavesUntouched : State → State → Counts → Counts → LogError → Type 0
-LeavesUntouched before now old new OutOfMemory = (now ≡ before) ⊎ Rose old.shorts new.shorts
-LeavesUntouched before now old new (FaultOf fault) = ⊤
-LeavesUntouched before now old new (Damaged file place) = now ≡ before
-LeavesUntouched before now old new (LogFull n) = now ≡ before
+-- the site is as before, but at a fault; where a call wanted memory, the full log may be synced
+abbrev pub LeavesUntouched : (full : Option ℕ) → State → State → LogError → Type 0
+LeavesUntouched full before now OutOfMemory = (now ≡ before) ⊎ SyncsLog {T = Unit {0}} full before now (Ok tt)
+LeavesUntouched full before now (FaultOf fault) = ⊤
+LeavesUntouched full before now (Damaged file place) = now ≡ before
+LeavesUntouched full before now (LogFull n) = now ≡ before

@@ -1,5 +1,5 @@
 -- Which data logs there are, as they are kept.
-use Rattle.std.specs.Prelude.{ℕ, ◌+◌, ◌^◌, ◌<◌, ◌≤◌, ◌==◌, Bool, false, List, [], ◌∷◌, Option, Some, None, option_map, vec_len, vec_capacity, if◌then◌else◌}
+use Rattle.std.specs.Prelude.{◌≡◌, ℕ, ◌+◌, ◌^◌, ◌<◌, ◌≤◌, ◌==◌, Bool, false, List, [], ◌∷◌, Option, Some, None, option_map, vec_len, vec_capacity, if◌then◌else◌}
 use Rattle.px_dlog.specs.declared.inventory.ClosedLog.{ClosedLog}
 use Rattle.px_dlog.specs.declared.inventory.CurrentLog.{CurrentLog}
 use Rattle.px_dlog.specs.declared.inventory.Inventory.{Inventory}
@@ -50,6 +50,17 @@ AreInOrder closed (Some log) next = Rise 1 log.number closed × (1 ≤ log.len) 
 pub record IsSound (kept : Kept) : Type 0 where
   pub order : AreInOrder kept.closed kept.current kept.next
   pub last : kept.next ≤ 2 ^ 32
+
+-- the first of them with this number or a later one
+pub record IsFirstFrom (number : ℕ) (closed : List ClosedLog) (log : ClosedLog) : Type 0 where
+  pub from : number ≤ log.number
+  pub there : closed_len closed log.number ≡ log.len
+  pub some : 1 ≤ log.len
+  pub none_before : (n : ℕ) → number ≤ n → n < log.number → closed_len closed n ≡ 0
+
+-- none of them has one
+abbrev pub HasNoneFrom : ℕ → List ClosedLog → Type 0
+HasNoneFrom number closed = (n : ℕ) → number ≤ n → closed_len closed n ≡ 0
 
 -- there is room for one more closed log
 abbrev pub HasRoom : Inventory → Type 0

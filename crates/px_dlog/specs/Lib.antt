@@ -1,4 +1,6 @@
+pub mod Body
 pub mod Errors
+pub mod Finding
 pub mod Header
 pub mod Inventory
 pub mod Logs

@@ -1,12 +1,12 @@
 -- The data logs as their owner sees them, and the parts that lie in them.
-use Rattle.std.specs.Prelude.{◌≡◌, ◌≢◌, ℕ, ◌+◌, ◌<◌, ◌≤◌, ◌==◌, max, nat_lt, Bool, true, false, ◌&&◌, List, [], ◌∷◌, length, take, drop, ◌++◌, ◌^◌, Option, Some, None, Result, if◌then◌else◌}
-use Rattle.std.specs.List.{AllByRecursion}
+use Rattle.std.specs.Prelude.{◌≡◌, ◌≢◌, ℕ, ◌+◌, ◌<◌, ◌≤◌, ◌==◌, max, nat_lt, Bool, true, false, not, ◌&&◌, List, [], ◌∷◌, length, take, drop, ◌++◌, ◌^◌, Option, Some, None, Result, if◌then◌else◌}
+use Rattle.std.specs.List.{AllByRecursion, filter}
 use Rattle.px_site.specs.Disk.{FileState, touched}
 use Rattle.px_site.specs.State.{Moment, State, Syncs}
 use Rattle.px_site.specs.declared.error.SiteError.{SiteError}
 use Rattle.px_site.specs.declared.name.FileName.{FileName}
 use Rattle.px_site.specs.declared.name.FileName.TheVariants.{Dlog}
-use Rattle.px_site.specs.Names.{kind}
+use Rattle.px_site.specs.Names.{kind, same_file}
 use Rattle.px_dlog.specs.declared.part_ref.PartRef.{PartRef}
 use Rattle.px_dlog.specs.declared.inventory.TheConstants.{LOG_SIZE}
 use Rattle.px_dlog.specs.Part.{CanPart, PartAt, part_size, part_text}
@@ -65,9 +65,31 @@ pub record IsEnd (logs : Logs) (log place : ℕ) : Type 0 where
 abbrev pub all_synced : Logs → Logs
 all_synced logs = record logs { unsynced = false }
 
--- without this log
-abbrev pub without : ℕ → Logs → Logs
-without log logs = record logs { len = λ n. if n == log then 0 else logs.len n }
+-- the log that is synced before the next part is written, where that begins another one
+abbrev pub full_log : Logs → Option ℕ
+full_log logs = to_close logs (logs.len (part_log logs))
+
+-- this log is gone
+pub record IsWithout (log : ℕ) (before now : Logs) : Type 0 where
+  pub len : (n : ℕ) → now.len n ≡ (if n == log then 0 else before.len n)
+  pub current : now.current ≡ before.current
+  pub unsynced : now.unsynced ≡ before.unsynced
+  pub next : now.next ≡ before.next
+
+-- ---- which logs there are
+
+-- there is such a log, and it takes no part any more
+pub record IsClosed (logs : Logs) (log : ℕ) : Type 0 where
+  pub there : 1 ≤ logs.len log
+  pub other : logs.current ≢ Some log
+
+abbrev pub is_current : Option ℕ → ℕ → Bool
+is_current None log = false
+is_current (Some n) log = log == n
+
+-- the bytes of a log, and whether it is closed; None where there is no such log
+abbrev pub extent_of : Logs → ℕ → Option (ℕ × Bool)
+extent_of logs log = if logs.len log == 0 then None else Some (logs.len log, not (is_current logs.current log))
 
 -- ---- parts in them
 
@@ -140,6 +162,21 @@ pub record IsLogPast (after : ℕ) (logs : Logs) (n : ℕ) : Type 0 where
   pub past : after < n
   pub there : 1 ≤ logs.len n
   pub least : (m : ℕ) → after < m → m < n → logs.len m ≡ 0
+
+-- there is none
+abbrev pub HasNonePast : ℕ → Logs → Type 0
+HasNonePast after logs = (n : ℕ) → after < n → logs.len n ≡ 0
+
+-- the parts that lie in other logs
+abbrev pub outside : ℕ → List Stored → List Stored
+outside log parts = filter (λ stored. not (stored.part.log == log)) parts
+
+-- only this log changed since this moment, and whatever part of another one rested then rests yet
+pub record KeepsOutside (log : ℕ) (before m : Moment) : Type 0 where
+  pub rest : (stored : Stored) → stored.part.log ≢ log → Rests before stored → Rests m stored
+  pub others : (name : FileName) → same_file (Dlog log) name ≡ false → m.files name ≡ before.files name
+  pub told : m.told ≡ before.told
+  pub telling : m.telling ≡ []
 
 -- the bytes that a part has in this content were put behind others
 pub record Reads (part : PartRef) (content before after : List ℕ) : Type 0 where

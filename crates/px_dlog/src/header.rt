@@ -1,4 +1,4 @@
-use crate::part::{HEADER_SIZE, LONGEST_PART};
+use crate::part::{HEADER_SIZE, LONGEST_PART, part_size};
 use px_bytes::{Fields, fnv};
 
 /// Where the bytes begin that the sum is taken of: behind length and sum.
@@ -44,7 +44,7 @@ impl Header {
             && self.slot == slot
             && 1 <= length
             && length <= LONGEST_PART
-            && HEADER_SIZE + length <= text.len()
-            && fnv(&text[SUMMED_FROM..HEADER_SIZE + length]) == self.sum
+            && part_size(length) <= text.len()
+            && fnv(&text[SUMMED_FROM..part_size(length)]) == self.sum
     }
 }

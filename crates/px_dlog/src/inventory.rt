@@ -1,7 +1,8 @@
 // Which data logs there are, with their lengths.
-ghost use Rattle.std.specs.Prelude.{◌≡◌, ◌+◌, ℕ, ◌<◌, ◌≤◌, IfSome, IfNone, OnOk};
-ghost use Rattle.px_dlog.specs.Inventory.{HasRoom, IsSound, Rise, closed_len, kept_of, logs_of};
-ghost use Rattle.px_dlog.specs.Logs.{IsEnd, IsGrown, all_synced, full_at, part_log, to_close, to_sync};
+ghost use Rattle.std.specs.Prelude.{◌≡◌, ◌+◌, ◌^◌, ℕ, ◌<◌, ◌≤◌, None, length, take, drop, IfSome, IfNone, OnOk};
+ghost use Rattle.std.specs.List.{AllByRecursion};
+ghost use Rattle.px_dlog.specs.Inventory.{HasNoneFrom, HasRoom, IsFirstFrom, IsSound, Rise, closed_len, kept_of, logs_of};
+ghost use Rattle.px_dlog.specs.Logs.{HasNonePast, IsClosed, IsEnd, IsGrown, IsLogPast, IsPast, IsWithout, all_synced, extent_of, full_at, part_log, to_close, to_sync};
 
 use std::alloc::AllocError;
 
@@ -42,6 +43,25 @@ pub(crate) struct End {
 }
 
 impl Inventory {
+    /// These logs, and no current one. The next number is past each of theirs and past this one.
+    pub(crate) fn of_closed(closed: Vec<ClosedLog>, named: u32) -> Inventory
+        requires { Rise 1 (2 ^ 32) closed.items }
+        ensures closed { result.closed.items ≡ closed.items }
+        ensures current { result.current ≡ None }
+        ensures past { IsPast named (logs_of (kept_of result)) }
+        ensures sound { IsSound (kept_of result) }
+    {
+        let greatest = match closed.last().copied() {
+            Some(log) => log.number,
+            None => 0,
+        };
+        Inventory {
+            closed,
+            current: None,
+            next: u64::from(greatest.max(named)) + 1,
+        }
+    }
+
     /// The current log, where it takes one more part.
     fn growing(&self) -> Option<CurrentLog>
         ensures some { IfSome result (λ log. (self.now.current ≡ Some log) × (log.len < LOG_SIZE)) }
@@ -152,5 +172,66 @@ impl Inventory {
             Some(log) if log.unsynced => Some(log.number),
             _ => None,
         }
+    }
+
+    /// How many closed logs come before this number.
+    fn count_before(&self, number: u64) -> usize
+        requires { IsSound (kept_of self.now) }
+        ensures bound { result ≤ length self.now.closed.items }
+        ensures before { AllByRecursion (λ log. log.number < number) (take result self.now.closed.items) }
+        ensures not_before { AllByRecursion (λ log. number ≤ log.number) (drop result self.now.closed.items) }
+    {
+        self.closed
+            .partition_point(|log| u64::from(log.number) < number)
+    }
+
+    /// The first closed log with this number or a later one.
+    fn closed_from(&self, number: u64) -> Option<ClosedLog>
+        requires { IsSound (kept_of self.now) }
+        ensures first { IfSome result (IsFirstFrom number self.now.closed.items) }
+        ensures none { IfNone result (HasNoneFrom number self.now.closed.items) }
+    {
+        self.closed.get(self.count_before(number)).copied()
+    }
+
+    /// The next log past this number.
+    pub(crate) fn next_log(&self, after: u32) -> Option<u32>
+        requires { IsSound (kept_of self.now) }
+        ensures next { IfSome result (IsLogPast after (logs_of (kept_of self.now))) }
+        ensures none { IfNone result (HasNonePast after (logs_of (kept_of self.now))) }
+    {
+        if let Some(log) = self.closed_from(u64::from(after) + 1) {
+            return Some(log.number);
+        }
+        match self.current {
+            Some(log) if after < log.number => Some(log.number),
+            _ => None,
+        }
+    }
+
+    /// The bytes of a log, and whether it is closed.
+    pub(crate) fn extent(&self, number: u32) -> Option<(u64, bool)>
+        requires { IsSound (kept_of self.now) }
+        ensures { result ≡ extent_of (logs_of (kept_of self.now)) number }
+    {
+        match self.current {
+            Some(log) if log.number == number => return Some((log.len, false)),
+            _ => {}
+        }
+        match self.closed_from(u64::from(number)) {
+            Some(log) if log.number == number => Some((log.len, true)),
+            _ => None,
+        }
+    }
+
+    /// A closed log was removed. It takes no memory.
+    pub(crate) fn remove(&mut self, number: u32)
+        requires sound { IsSound (kept_of self.old) }
+        requires closed { IsClosed (logs_of (kept_of self.old)) number }
+        ensures logs { IsWithout number (logs_of (kept_of self.old)) (logs_of (kept_of self.new)) }
+        ensures sound { IsSound (kept_of self.new) }
+    {
+        let at = self.count_before(u64::from(number));
+        let _ = self.closed.remove(at);
     }
 }

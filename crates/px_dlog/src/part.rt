@@ -1,5 +1,5 @@
 ghost use Rattle.std.specs.Prelude.{◌≡◌, ◌≤◌, ◌++◌, ℕ, List, length, IfSome, IfNone};
-ghost use Rattle.px_dlog.specs.Part.{PartAt, part_text};
+ghost use Rattle.px_dlog.specs.Part.{PartAt, part_size, part_text};
 
 use crate::header::Header;
 use px_bytes::{fnv, fnv_on};
@@ -9,6 +9,14 @@ pub const HEADER_SIZE: usize = 16;
 
 /// The most bytes that a part has of its own.
 pub const LONGEST_PART: usize = 65_536;
+
+/// How many bytes a part has that has so many of its own.
+pub const fn part_size(length: usize) -> usize
+    requires { length ≤ LONGEST_PART }
+    ensures { result ≡ part_size length }
+{
+    HEADER_SIZE + length
+}
 
 /// What stands in front of the bytes in their part. It takes no memory.
 #[tactic(auto, unfolding(crate::specs::Part::part_text))]
@@ -38,6 +46,6 @@ pub fn check_part(text: &[u8], size: u32, table: u8, slot: u32) -> Option<&[u8]>
     if !header.checks(text, size, table, slot) {
         return None;
     }
-    let end = HEADER_SIZE + header.length as usize;
+    let end = part_size(header.length as usize);
     Some(&text[HEADER_SIZE..end])
 }

@@ -12,6 +12,9 @@ const PART_BYTES: usize = 65_520;
 
 const PARTS_OF_A_LOG: usize = 16;
 
+/// A test has fewer logs.
+const MOST_LOGS: u32 = 8;
+
 /// A part of so many bytes 7, for slot 5 of table 1.
 fn append(
     alloc: Global,
@@ -131,6 +134,157 @@ fn until_a_failure(alloc: Global, call: u64) -> Result<LogError, Fail> {
         }
     }
     Err("no call failed".into())
+}
+
+/// The logs that there are, with their bytes and whether they are closed, in order.
+fn listing(alloc: Global, dlogs: &Dlogs) -> Result<Vec<(u32, u64, bool)>, Fail> {
+    let mut logs = Vec::new(alloc);
+    let mut last = 0;
+    for _ in 0..MOST_LOGS {
+        let Some(log) = dlogs.next_log(last) else {
+            break;
+        };
+        let Some((bytes, closed)) = dlogs.extent(log) else {
+            return Err("a log without bytes".into());
+        };
+        logs.push((log, bytes, closed))?;
+        last = log;
+    }
+    Ok(logs)
+}
+
+#[test]
+fn the_logs_of_a_store_that_was_left_are_found(rt: HostRuntime) -> Result<(), Fail> {
+    let alloc = rt.alloc();
+    let mut site = MemSite::new(alloc)?;
+    let mut first = Dlogs::new(alloc);
+    let part = filled(alloc, &mut first, &mut site)?;
+    assert_eq!(rt;
+        listing(alloc, &first)?.as_slice(),
+        [(1, LOG_SIZE, true), (2, 17, false)].as_slice()
+    );
+    let mut dlogs = Dlogs::load(alloc, &mut site, 0)?;
+    assert_eq!(rt; read(&rt, alloc, &dlogs, &mut site, &part)?, 1);
+    let next = append(alloc, &mut dlogs, &mut site, 2)?;
+    assert_eq!(rt; (next.log, next.place), (3, 0));
+    assert_eq!(rt;
+        listing(alloc, &dlogs)?.as_slice(),
+        [(1, LOG_SIZE, true), (2, 17, true), (3, 18, false)].as_slice()
+    );
+    Ok(())
+}
+
+#[test]
+fn a_log_begins_past_those_that_were_named(rt: HostRuntime) -> Result<(), Fail> {
+    let alloc = rt.alloc();
+    let table = [(0, 6), (4, 6), (5, 6), (9, 10), (u32::MAX - 1, u32::MAX)];
+    for (named, number) in table {
+        let mut site = MemSite::new(alloc)?;
+        site.put_file(FileName::Dlog(2), b"any bytes")?;
+        site.put_file(FileName::Dlog(5), b"others")?;
+        let mut dlogs = Dlogs::load(alloc, &mut site, named)?;
+        assert_eq!(rt;
+            listing(alloc, &dlogs)?.as_slice(),
+            [(2, 9, true), (5, 6, true)].as_slice()
+        );
+        assert_eq!(rt; append(alloc, &mut dlogs, &mut site, 1)?.log, number);
+    }
+    let mut site = MemSite::new(alloc)?;
+    let mut dlogs = Dlogs::load(alloc, &mut site, u32::MAX)?;
+    assert_eq!(rt; dlogs.full(), Some(1 << 32));
+    assert_eq!(rt;
+        append(alloc, &mut dlogs, &mut site, 1),
+        Err(LogError::LogFull(1 << 32))
+    );
+    Ok(())
+}
+
+/// What is found of a log whose last part wasn't synced, and what is read of that part.
+#[test]
+fn a_log_that_was_left_without_a_sync_is_found_as_it_is(rt: HostRuntime) -> Result<(), Fail> {
+    let alloc = rt.alloc();
+    let damaged = Err(LogError::Damaged {
+        file: FIRST,
+        place: 19,
+    });
+    let table = [
+        (Keep::Synced, 19, damaged),
+        (Keep::Torn(4), 23, damaged),
+        (Keep::Written, 44, Ok(9)),
+    ];
+    for (keep, bytes, answer) in table {
+        let mut site = MemSite::new(alloc)?;
+        let mut first = Dlogs::new(alloc);
+        let synced = append(alloc, &mut first, &mut site, 3)?;
+        first.sync_current(&mut site)?;
+        let part = append(alloc, &mut first, &mut site, 9)?;
+        let moment = site.moments();
+        let mut left = site.crash(Pick { moment, keep })?;
+        let dlogs = Dlogs::load(alloc, &mut left, 0)?;
+        assert_eq!(rt; dlogs.extent(1), Some((bytes, true)));
+        assert_eq!(rt; read(&rt, alloc, &dlogs, &mut left, &synced)?, 3);
+        assert_eq!(rt; read(&rt, alloc, &dlogs, &mut left, &part), answer);
+    }
+    Ok(())
+}
+
+/// Removes a log where it is closed.
+fn remove(dlogs: &mut Dlogs, site: &mut MemSite, log: u32) -> Result<bool, LogError> {
+    if !dlogs.is_closed(log) {
+        return Ok(false);
+    }
+    dlogs.remove(site, log)?;
+    Ok(true)
+}
+
+#[test]
+fn a_closed_log_is_removed(rt: HostRuntime) -> Result<(), Fail> {
+    let alloc = rt.alloc();
+    let mut site = MemSite::new(alloc)?;
+    let mut dlogs = Dlogs::new(alloc);
+    let part = filled(alloc, &mut dlogs, &mut site)?;
+    assert!(rt; remove(&mut dlogs, &mut site, 1)?);
+    assert_eq!(rt;
+        listing(alloc, &dlogs)?.as_slice(),
+        [(2, 17, false)].as_slice()
+    );
+    assert_eq!(rt; site.content(FIRST).len(), 0);
+    assert_eq!(rt; read(&rt, alloc, &dlogs, &mut site, &part)?, 1);
+    // one that isn't there, and the current one
+    for log in [1, 2] {
+        assert!(rt; !remove(&mut dlogs, &mut site, log)?);
+    }
+    Ok(())
+}
+
+/// Loads what is there and removes log 1, until a call of the site fails.
+fn until_a_call_fails(alloc: Global, call: u64) -> Result<LogError, Fail> {
+    let mut site = MemSite::failing_partway(alloc, &[Failure { call, bytes: 0 }])?;
+    site.put_file(FIRST, b"a part")?;
+    match Dlogs::load(alloc, &mut site, 0) {
+        Err(error) => Ok(error),
+        Ok(mut dlogs) => match remove(&mut dlogs, &mut site, 1) {
+            Err(error) => Ok(error),
+            Ok(_) => Err("no call failed".into()),
+        },
+    }
+}
+
+#[test]
+fn the_fault_of_a_load_or_a_removal_is_answered(rt: HostRuntime) -> Result<(), Fail> {
+    let table = [
+        (0, Fault::List),
+        (1, Fault::Read),
+        (2, Fault::List),
+        (3, Fault::Remove),
+    ];
+    for (call, fault) in table {
+        assert_eq!(rt;
+            until_a_call_fails(rt.alloc(), call)?,
+            LogError::Fault(fault)
+        );
+    }
+    Ok(())
 }
 
 #[test]

@@ -3,14 +3,19 @@ ghost use Rattle.px_index.specs.declared.error.EntriesError.TheVariants.{OutOfMe
 
 use px_site::{Fault, FileName};
 use std::alloc::AllocError;
+use thiserror::Error;
 
 /// Why a call gives up.
-#[derive(Clone, Copy, Debug, PartialEq, Eq)]
+#[derive(Clone, Copy, Debug, PartialEq, Eq, Error)]
 pub enum EntriesError {
+    /// The call, or the site in it, wanted memory.
+    #[error("out of memory")]
     OutOfMemory,
     /// A read of the site failed.
+    #[error("a file call failed: {0:?}")]
     Fault(Fault),
     /// The page at this place of this file, in bytes, isn't one of entries.
+    #[error("damaged at byte {place} of {file:?}")]
     Damaged { file: FileName, place: u64 },
 }
 

@@ -1,12 +1,12 @@
 // A part appended.
-ghost use Rattle.std.specs.Prelude.{◌≡◌, ℕ, ◌≤◌, false, List, length, None, Some, IfOk, IfErr, IsErrOf, OnOk, OnErr};
+ghost use Rattle.std.specs.Prelude.{◌≡◌, ℕ, ◌≤◌, false, List, length, Some, IfOk, IfErr, IsErrOf, OnOk, OnErr};
 ghost use Rattle.px_site.specs.Cause.{NoneFell};
 ghost use Rattle.px_site.specs.Names.{same_file};
 ghost use Rattle.px_site.specs.State.{EachMoment};
 ghost use Rattle.px_site.specs.declared.name.FileName.{FileName};
-ghost use Rattle.px_dlog.specs.Errors.{HasCause, LeavesUntouched};
+ghost use Rattle.px_dlog.specs.Errors.{HasCause, LeavesUntouched, UnlessFault};
 ghost use Rattle.px_dlog.specs.Inventory.{logs_of};
-ghost use Rattle.px_dlog.specs.Logs.{IsDlogOf, IsGrown, KeepsParts, Stored, full_at, part_log, with_part};
+ghost use Rattle.px_dlog.specs.Logs.{IsDlogOf, IsGrown, KeepsParts, Stored, full_at, full_log, part_log, with_part};
 ghost use Rattle.px_dlog.specs.Part.{part_size, part_text};
 
 use crate::dlogs::syncing::sync_log;
@@ -20,8 +20,8 @@ impl Dlogs {
     /// the next one, once each part of the current one is synced. LogFull where no log may have that number; OutOfMemory
     /// where the call or the site wants memory.
     ///
-    /// After an error the logs are as before, and the site is too, unless a call of it failed: then the full log may be synced,
-    /// and a fault may leave other bytes in place of parts that don't rest.
+    /// After an error the logs are as before. The site is too, but that a full log may be synced; and a fault may leave other bytes
+    /// in place of parts that don't rest.
     pub fn append_part<W: Site>(
         &mut self,
         site: &mut W,
@@ -37,7 +37,9 @@ impl Dlogs {
         ensures as_before { OnErr result (self.new ≡ self.old) }
         ensures appended { W.tells → (parts : List Stored) → IsDlogOf (logs_of self.old) parts (W.state site.old)
             → IfOk result (λ part. IsDlogOf (logs_of self.new) (with_part part bytes.now parts) (W.state site.new)) }
-        ensures untouched { W.tells → IfErr result (LeavesUntouched (W.state site.old) (W.state site.new) (W.counts site.old) (W.counts site.new)) }
+        ensures kept { W.tells → (parts : List Stored) → IsDlogOf (logs_of self.old) parts (W.state site.old)
+            → IfErr result (UnlessFault (IsDlogOf (logs_of self.new) parts (W.state site.new))) }
+        ensures untouched { W.tells → IfErr result (LeavesUntouched (full_log (logs_of self.old)) (W.state site.old) (W.state site.new)) }
         ensures others { W.tells → (name : FileName) → same_file (FileName.Dlog (part_log (logs_of self.old))) name ≡ false
             → (W.state site.new).content name ≡ (W.state site.old).content name }
         ensures moments { W.tells → (parts : List Stored) → IsDlogOf (logs_of self.old) parts (W.state site.old)

@@ -1,11 +1,11 @@
 // A part read again.
-ghost use Rattle.std.specs.Prelude.{◌≡◌, ◌++◌, ◌+◌, ◌≤◌, ℕ, List, length, take, drop, IfOk, IfErr, OnOk, OnErr};
+ghost use Rattle.std.specs.Prelude.{◌≡◌, length, IfErr, OnOk, OnErr};
 ghost use Rattle.px_site.specs.Cause.{NoneFell};
 ghost use Rattle.px_site.specs.declared.name.FileName.{FileName};
-ghost use Rattle.px_dlog.specs.Errors.{FindsNoPart, HasReadCause, IsPassing};
-ghost use Rattle.px_dlog.specs.Logs.{LiesIn, Reads, Stored};
+ghost use Rattle.px_dlog.specs.Errors.{FindsNoPart, HasReadCause};
+ghost use Rattle.px_dlog.specs.Logs.{Reads};
 
-use crate::part::{HEADER_SIZE, LONGEST_PART, check_part};
+use crate::part::{LONGEST_PART, check_part, part_size};
 use crate::{Dlogs, LogError, PartRef};
 use px_site::{FileName, Site};
 
@@ -33,7 +33,7 @@ impl Dlogs {
         if length > LONGEST_PART {
             return Err(damaged);
         }
-        let mut buffer = vec![in *out.allocator(); 0; HEADER_SIZE + length]?;
+        let mut buffer = vec![in *out.allocator(); 0; part_size(length)]?;
         let count = site.read_at(FileName::Dlog(part.log), u64::from(part.place), &mut buffer)?;
         let Some(bytes) = check_part(&buffer[..count], part.length, part.table, part.slot) else {
             return Err(damaged);

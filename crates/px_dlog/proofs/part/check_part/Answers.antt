@@ -1,4 +1,4 @@
-use Rattle.std.proofs.Common.{◌≡◌, ◌+◌, ◌-◌, ◌<◌, ℕ, take, drop, length, refl, subst, arith}
+use Rattle.std.proofs.Common.{◌≡◌, ◌-◌, ◌<◌, ℕ, take, drop, length, refl, subst, arith}
 use Rattle.std.proofs.lemmas.Bool.{false≢true}
 use Rattle.px_dlog.specs.declared.part.TheConstants.{HEADER_SIZE}
 use Rattle.px_dlog.specs.Part.{PartAt}
@@ -18,6 +18,6 @@ returns-then-not-checks-clause-none c = λ bytes sized at.
 pub returns-clause-found : goal.returns-clause-found
 returns-clause-found c =
     let header = c.in_ok-header.header in
-    let size : header.length ≡ HEADER_SIZE + header.length - HEADER_SIZE = omega arith in
+    let size : header.length ≡ c.part_size-end.result - HEADER_SIZE = omega (arith, c.part_size-end.ensures) in
     subst (λ (n : ℕ). PartAt c.args.text.now c.args.table c.args.slot (take n (drop HEADER_SIZE c.args.text.now))) size
     (checks_part c.args.text.now header c.args.size c.args.table c.args.slot (omega arith) (omega arith) c.in_ok-header.ensures.front (c.if-not-checks.ensures.0 refl))
