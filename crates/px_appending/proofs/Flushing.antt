@@ -18,7 +18,7 @@ use Rattle.px_tidying.specs.Opening.{HasLife, HasStore, Opening, opening}
 use Rattle.px_working.proofs.Moments.{synced_meanwhile}
 use Rattle.px_working.specs.Lasts.{LeavesFronts}
 use Rattle.px_xlog.specs.Contents.{the_log}
-use Rattle.px_appending.specs.Appending.{IsFlushed, KeepsOthers, LastsThere, LastsWithin}
+use Rattle.px_appending.specs.Appending.{IsFlushed, LastsThere, LastsWithin}
 
 pub is_flushed : (tells : Type 0) (s other : State) (held : HeldTables) (log later : Log) → later ≡ record log { durable = log.frames }
     → (tells → (changes : List Change) → IsLogOf log changes s → IsLogOf later changes other)
@@ -43,9 +43,6 @@ meanwhile parts least m life restart marks old has now on = record {
 pub lasts_there : (tells : Type 0) (old new : Opening) → HasFronts tells old new → LastsThere tells old new
 lasts_there tells old new moments tell parts least m life restart marks has =
     weaker_moments (meanwhile parts least m life restart marks old has) (moments tell life.changes has.logged)
-
-pub others_there : (tells : Type 0) (old new : Opening) → HasFronts tells old new → KeepsOthers tells old new
-others_there tells old new moments tell changes is = weaker_moments (λ now on. on.others) (moments tell changes is)
 
 -- the durable ones alone may be others
 pub store_there : (store : Store) (s other : State) (held : HeldTables) (log later : Log) (durable : ℕ) → later ≡ record log { durable = durable }

@@ -14,6 +14,7 @@ use Rattle.px_life.proofs.Done as life_done
 use Rattle.px_life.proofs.Fronts.{life_grows}
 use Rattle.px_life.specs.Front.{AreStored}
 use Rattle.px_life.specs.Life.{Life, end_of, grown, store_at}
+use Rattle.px_log.proofs.Touching.{last_moment}
 use Rattle.px_log.specs.Log.{HasFirst, IsLogOf, Log, with_frame}
 use Rattle.px_model.specs.Machine.{Machine}
 use Rattle.px_model.specs.declared.limits.TheConstants.{MOST_TABLES}
@@ -22,14 +23,13 @@ use Rattle.px_restart.specs.declared.restart.Restart.{Restart}
 use Rattle.px_shown.specs.Parts.{Parts}
 use Rattle.px_site.proofs.Moments.{weaker_moments}
 use Rattle.px_site.specs.State.{EachMoment, Moment, OnFile, State}
-use Rattle.px_tidying.proofs.Composing.{last_moment}
 use Rattle.px_tidying.proofs.Made.{log_first}
 use Rattle.px_tidying.specs.Opening.{HasLife, HasStore, Opening}
 use Rattle.px_working.proofs.Stepping.{step_lasts}
 use Rattle.px_working.specs.Follows.{last_store}
 use Rattle.px_working.specs.Lasts.{HasOthersOf, Lasts, LeavesFronts}
 use Rattle.px_xlog.specs.Contents.{the_log}
-use Rattle.px_appending.specs.Appending.{AddsOn, Changing, GoesOn, KeepsOthers, LastsAdding, LastsOn, LastsWithin, MayAdd, called}
+use Rattle.px_appending.specs.Appending.{AddsOn, Changing, GoesOn, LastsAdding, LastsOn, LastsWithin, MayAdd, called}
 
 -- ---- results
 
@@ -133,7 +133,7 @@ module _ (parts : Parts) (least : ℕ) (m later : Machine) (life : Life) (restar
       → HasLife parts least later (grown life step change) restart marks new
   life_after given new is store log logged moments =
       let others : HasOthersOf old.site.now new.site.now =
-      last_moment (HasOthersOf old.site.now) old.site new.site (λ name away. refl) (weaker_moments (λ now on. on.others) moments) in
+      last_moment (HasOthersOf old.site.now) (λ name away. refl) (weaker_moments (λ now on. on.others) moments) in
       let durable : new.log.durable ≡ marks.durable = ap (λ (l : Log). l.durable) log ∙ has.durable in
       let whole : IsLogOf new.log (life.changes ++ change ∷ []) new.site =
       subst (λ (c : Change). IsLogOf new.log (life.changes ++ c ∷ []) new.site) (same_change given is) logged in
@@ -170,6 +170,3 @@ lasts_adding tells step changing change old new is moments tell parts least m la
 pub lasts_on : (tells : Type 0) (step : Step) (change : Change) (old new : Opening) → IsOfStep step change old → GrowsBy tells change old new
     → LastsOn tells step old new
 lasts_on tells step change old new = lasts_adding tells step (called step) change old new
-
-pub keeps_others : (tells : Type 0) (given : Change) (old new : Opening) → GrowsBy tells given old new → KeepsOthers tells old new
-keeps_others tells given old new moments tell changes is = weaker_moments (λ now on. on.others) (moments tell changes is)

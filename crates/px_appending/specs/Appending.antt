@@ -1,11 +1,11 @@
--- What a call that appends a frame does to the lives of a store, and to the files.
-use Rattle.std.specs.Prelude.{◌≡◌, ℕ, List, []}
+-- What a call that appends a frame does to the lives of a store.
+use Rattle.std.specs.Prelude.{◌≡◌, ℕ}
 use Rattle.px_change.specs.declared.change.Change.{Change}
 use Rattle.px_history.specs.Steps.{Step}
 use Rattle.px_history.specs.Store.{Store}
 use Rattle.px_history.specs.Written.{change_of}
 use Rattle.px_life.specs.Life.{Life, end_of, grown}
-use Rattle.px_log.specs.Log.{IsLogOf, Log}
+use Rattle.px_log.specs.Log.{Log}
 use Rattle.px_model.specs.Machine.{Machine, commits}
 use Rattle.px_reached.specs.Reachable.{Marks}
 use Rattle.px_restart.specs.declared.restart.Restart.{Restart}
@@ -68,11 +68,6 @@ abbrev pub LastsThere : (tells : Type 0) → (old new : Opening) → Type 0
 LastsThere tells old new =
     tells → (parts : Parts) (least : ℕ) (m : Machine) (life : Life) (restart : Restart) (marks : Marks) → HasLife parts least m life restart marks old
     → EachMoment (LastsWithin parts least m restart old.site.now) old.site new.site
-
--- at each moment of the call every file but the log is as it was
-abbrev pub KeepsOthers : (tells : Type 0) → (old new : Opening) → Type 0
-KeepsOthers tells old new =
-    tells → (changes : List Change) → IsLogOf old.log changes old.site → EachMoment (LeavesOthers old.site.now) old.site new.site
 
 -- the log is one of the same store, and as much of it is durable
 pub record HasSameShape (old new : Log) : Type 0 where

@@ -8,10 +8,11 @@ ghost use Rattle.px_history.specs.Store.{Store};
 ghost use Rattle.px_history.specs.Written.{change_of};
 ghost use Rattle.px_log.specs.Errors.{HasLogCause, IsFaultOf, LeavesUntouched, OnShortage};
 ghost use Rattle.px_log.specs.Log.{full_at};
+ghost use Rattle.px_log.specs.Touching.{TouchesLog};
 ghost use Rattle.px_site.specs.Cause.{HasCause, IsOwn, NoneFell, Rose};
 ghost use Rattle.px_site.specs.State.{OnShort};
 ghost use Rattle.px_tidying.specs.Opening.{HasStore, opening};
-ghost use Rattle.px_appending.specs.Appending.{AddsOn, GoesOn, HasSameShape, IsFlushed, KeepsOthers, LastsAdding, LastsOn, LastsThere};
+ghost use Rattle.px_appending.specs.Appending.{AddsOn, GoesOn, HasSameShape, IsFlushed, LastsAdding, LastsOn, LastsThere};
 ghost use Rattle.px_appending.specs.Ends.{IsDue, end_step};
 ghost use Rattle.px_appending.specs.Unlinks.{GoesFrom, MayBeUnlinked, sweeping};
 ghost use Rattle.px_appending.specs.Versions.{FitsFields, MayBeAppended};
@@ -41,7 +42,7 @@ pub fn append_version<W: Site>(
     ensures store_stays { (store : Store) → HasStore store (opening (W.state site.old) held.old log.old)
         → OnErr result (HasStore store (opening (W.state site.new) held.new log.new)) }
     ensures moments { LastsOn W.tells (step_of prepared) (opening (W.state site.old) held.old log.old) (opening (W.state site.new) held.new log.new) }
-    ensures others { KeepsOthers W.tells (opening (W.state site.old) held.old log.old) (opening (W.state site.new) held.new log.new) }
+    ensures touches { W.tells → TouchesLog 1 (W.state site.old) (W.state site.new) }
     ensures fits { FitsFields prepared }
     ensures frames { OnOk result (log.new.frames ≡ log.old.frames + 1) }
     ensures shape { HasSameShape log.old log.new }
@@ -88,7 +89,7 @@ pub fn append_unlinked<W: Site>(
         → OnErr result (HasStore store (opening (W.state site.new) held.new log.new)) }
     ensures moments { (store : Store) (from : ℕ) → GoesFrom store prepared from (opening (W.state site.old) held.old log.old)
         → LastsAdding W.tells (unlink_from prepared from) (sweeping prepared from swept) (opening (W.state site.old) held.old log.old) (opening (W.state site.new) held.new log.new) }
-    ensures others { KeepsOthers W.tells (opening (W.state site.old) held.old log.old) (opening (W.state site.new) held.new log.new) }
+    ensures touches { W.tells → TouchesLog 1 (W.state site.old) (W.state site.new) }
     ensures frames { OnOk result (log.new.frames ≡ log.old.frames + 1) }
     ensures shape { HasSameShape log.old log.new }
     ensures form { HasSameForm held.old held.new }
@@ -132,7 +133,7 @@ pub fn append_end<W: Site>(
         → OnErr result (HasStore store (opening (W.state site.new) held log.new)) }
     ensures moments { (held : HeldTables)
         → LastsOn W.tells (end_step xn commit) (opening (W.state site.old) held log.old) (opening (W.state site.new) held log.new) }
-    ensures others { (held : HeldTables) → KeepsOthers W.tells (opening (W.state site.old) held log.old) (opening (W.state site.new) held log.new) }
+    ensures touches { W.tells → TouchesLog 1 (W.state site.old) (W.state site.new) }
     ensures frames { OnOk result (log.new.frames ≡ log.old.frames + 1) }
     ensures shape { HasSameShape log.old log.new }
     ensures as_before { OnErr result (log.new ≡ log.old) }
@@ -155,7 +156,7 @@ pub fn flush<W: Site>(site: &mut W, log: &mut Xlog) -> Result<(), SiteError>
     ensures store { (held : HeldTables) (store : Store) → HasStore store (opening (W.state site.old) held log.old)
         → HasStore store (opening (W.state site.new) held log.new) }
     ensures moments { (held : HeldTables) → LastsThere W.tells (opening (W.state site.old) held log.old) (opening (W.state site.new) held log.new) }
-    ensures others { (held : HeldTables) → KeepsOthers W.tells (opening (W.state site.old) held log.old) (opening (W.state site.new) held log.new) }
+    ensures touches { W.tells → TouchesLog 1 (W.state site.old) (W.state site.new) }
     ensures marks { OnOk result (log.new ≡ record log.old { durable = log.old.frames }) }
     ensures as_before { OnErr result (log.new ≡ log.old) }
     ensures idle { W.tells → log.old.durable ≡ log.old.frames → W.state site.new ≡ W.state site.old }

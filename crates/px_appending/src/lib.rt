@@ -4,7 +4,7 @@
 //!   a commit or a rollback, and `flush`, which makes all frames durable.
 //! - `fields`: that what is prepared fits the fields of its cells.
 //!
-//! `specs/Appending` says what that does to the lives of the store and to its files, `specs/Versions` which version may have its frame,
+//! `specs/Appending` says what that does to the lives of the store at each moment, `specs/Versions` which version may have its frame,
 //! `specs/Unlinks` which versions may go, `specs/Ends` which end may be told.
 #![tactic(auto)]
 

@@ -1,6 +1,5 @@
 -- What was found of a store that may be opened rests there, begins a life, and works once it was tidied.
-use Rattle.std.proofs.Common.{◌≡◌, ℕ, ◌+◌, ◌-◌, ◌≤◌, Bool, true, false, List, [], length, map, refl, sym, ap, subst, ◌∙◌, arith}
-use Rattle.std.specs.Prelude.{⊤}
+use Rattle.std.proofs.Common.{◌≡◌, ℕ, ◌+◌, ◌-◌, ◌≤◌, Bool, true, false, List, [], length, map, refl, sym, ap, subst, ◌∙◌, inl, inr, arith}
 use Rattle.std.proofs.lemmas.Bool.Decides.{nat_tests}
 use Rattle.px_beginning.proofs.Lasting.{found_store, no_cells_rest}
 use Rattle.px_beginning.specs.Found.{HasNoCells, IsFound, Reading, life_of, marks_of}
@@ -18,8 +17,10 @@ use Rattle.px_life.proofs.Found.{OpensShow}
 use Rattle.px_life.specs.Front.{commits_by, done_by}
 use Rattle.px_life.specs.Life.{Life, end_of}
 use Rattle.px_log.proofs.FramesOfChanges.{can_frames}
+use Rattle.px_log.proofs.Touching.{last_moment, touches_less, touches_then}
 use Rattle.px_log.specs.Contents.{Scans, log_text}
 use Rattle.px_log.specs.Log.{IsLogOf, Log}
+use Rattle.px_log.specs.Touching.{LogAlone, TouchesLog}
 use Rattle.px_model.specs.Machine.{Machine, commits, fresh}
 use Rattle.px_model.specs.declared.limits.TheConstants.{STORED_NUMBERS_END}
 use Rattle.px_model.specs.declared.row.Row.{Row}
@@ -42,7 +43,6 @@ use Rattle.px_site.specs.declared.name.FileName.{FileName}
 use Rattle.px_site.specs.declared.name.FileName.TheVariants.{Restart as RestartFile, Xlog}
 use Rattle.px_standing.specs.Files.{Files}
 use Rattle.px_standing.specs.Resting.{ReadsImages}
-use Rattle.px_tidying.proofs.Composing.{last_moment}
 use Rattle.px_tidying.specs.Opening.{HasLife, HasStore, LastsStill, LastsThrough, Opening, opening}
 use Rattle.px_working.specs.Follows.{last_store}
 use Rattle.px_working.specs.Lasts.{Lasts}
@@ -57,7 +57,7 @@ use Rattle.px_cell_opening.proofs.One.{one_scan}
 use Rattle.px_cell_opening.proofs.Standing.{IsBeside, Says, finds_by, may_beside, may_says}
 use Rattle.px_cell_opening.proofs.Tables.{has_store}
 use Rattle.px_cell_opening.specs.Found.{HasFound, Rests, reading_of}
-use Rattle.px_cell_opening.specs.Opened.{IsTidiedOf, MayOpen, OpensAs, WorksFrom, machine_of, store_of, tidied_count, tidied_store}
+use Rattle.px_cell_opening.specs.Opened.{IsTidiedOf, MayOpen, OpensAs, TouchesAsOpened, WorksFrom, machine_of, store_of, tidied_count, tidied_store}
 use Rattle.px_cell_opening.specs.declared.opening.Cells.{Cells}
 use Rattle.px_cell_opening.specs.declared.opening.Found.{Found}
 
@@ -254,9 +254,9 @@ still_stands stand restart count rows base before now still = record {
 }
 
 -- no table file gets a byte while only the log is written
-pub still_empty : (old new : State) → EachMoment (OnFile the_log old.now (λ file. ⊤)) old new → HasEmptyTables old.now → HasEmptyTables new.now
+pub still_empty : (old new : State) → EachMoment (LogAlone old.now) old new → HasEmptyTables old.now → HasEmptyTables new.now
 still_empty old new alone empty what table =
-    last_moment (λ (m : Moment). m.files (table_file what table) ≡ at_rest []) old new (empty what table)
+    last_moment (λ (m : Moment). m.files (table_file what table) ≡ at_rest []) (empty what table)
     (weaker_moments (λ m on. on.others (table_file what table) (table_file_away what table) ∙ empty what table) alone)
 
 -- ---- what the laws of this crate say of it
@@ -330,6 +330,29 @@ module _ (restart : Restart) (count : ℕ) (rows : List Row) (found : Found) (s 
 pub is_done : (restart : Restart) (found : Found) (has : HasFound restart found) → CanRestart restart → (slice : List Change) (done : Done) → slice ≡ found.changes
     → done ≡ done_by restart slice → (store_of restart found.changes found.next has.holds.found has.holds.layouts).done ≡ done
 is_done restart found has can slice done same is = done_there restart found has can ∙ ap (done_by restart) (sym same) ∙ sym is
+
+-- ---- what is touched
+
+pub opened_touches : (restart : Restart) (bytes : List ℕ) (found : Found) (has : HasFound restart found) (a b c : State) → Scans restart bytes found.changes → TouchesLog 2 a b
+    → TouchesLog (tidied_count restart.tables (store_of restart found.changes found.next has.holds.found has.holds.layouts) + 1) b c → TouchesAsOpened restart bytes a c
+opened_touches restart bytes found has a b c scan cut tidied = record {
+  count = tidied_count restart.tables (store_of restart found.changes found.next has.holds.found has.holds.layouts);
+  unlinked = inr (record {
+    changes = found.changes;
+    scan = scan;
+    found = has.holds.found;
+    layouts = has.holds.layouts;
+    opens = has.holds.opens;
+    stored = has.stored;
+    next = found.next;
+    is_next = has.next;
+    count_is = refl;
+  });
+  touches = touches_less (omega arith) (touches_then cut tidied);
+}
+
+pub none_unlinked : (restart : Restart) (bytes : List ℕ) (a b : State) → TouchesLog 2 a b → TouchesAsOpened restart bytes a b
+none_unlinked restart bytes a b cut = record { count = 0; unlinked = inl refl; touches = touches_less (omega arith) cut }
 
 -- ---- what is told of it
 

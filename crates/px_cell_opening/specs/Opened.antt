@@ -1,5 +1,5 @@
 -- What is opened of a store.
-use Rattle.std.specs.Prelude.{◌≡◌, ℕ, ◌+◌, ◌-◌, List, length}
+use Rattle.std.specs.Prelude.{◌≡◌, ◌⊎◌, ℕ, ◌+◌, ◌-◌, List, length}
 use Rattle.px_beginning.specs.Numbers.{IsNext}
 use Rattle.px_change.specs.declared.change.Change.{Change}
 use Rattle.px_history.specs.Steps.{after_steps}
@@ -9,6 +9,7 @@ use Rattle.px_life.specs.Found.{store_found}
 use Rattle.px_life.specs.Front.{AreStored, commits_by, done_by}
 use Rattle.px_life.specs.Life.{Life}
 use Rattle.px_log.specs.Contents.{Scans}
+use Rattle.px_log.specs.Touching.{TouchesLog}
 use Rattle.px_model.specs.Machine.{Machine, fresh}
 use Rattle.px_model.specs.declared.row.Row.{Row}
 use Rattle.px_opened.specs.Opened.{Opens, changes_over}
@@ -56,6 +57,27 @@ pub record OpensAs (restart : Restart) (bytes : List ℕ) (cells : Cells) (s : S
   pub frames : cells.log.frames ≡ length changes + tidied_count restart.tables (store_of restart changes (cells.base + 1) found layouts)
   pub commits_are : cells.commits ≡ commits_by restart changes
   pub redone_are : cells.redone ≡ length changes - restart.redo
+
+-- ---- what is touched
+
+-- so many versions of the tables to which these bytes open are unlinked
+pub record Unlinks (restart : Restart) (bytes : List ℕ) (count : ℕ) : Type 0 where
+  pub changes : List Change
+  pub scan : Scans restart bytes changes
+  pub found : Tables
+  pub layouts : Layouts
+  pub opens : Opens restart.short restart.tables (changes_over none_laid changes) found layouts
+  pub stored : AreStored found layouts
+  pub next : ℕ
+  pub is_next : IsNext restart changes found layouts next
+  pub count_is : count ≡ tidied_count restart.tables (store_of restart changes next found layouts)
+
+-- Nothing but the log was touched: two calls cut what is torn behind it, and there was one for each version that was to be unlinked, and a
+-- sync. Where it didn't come so far, no version was.
+pub record TouchesAsOpened (restart : Restart) (bytes : List ℕ) (old new : State) : Type 0 where
+  pub count : ℕ
+  pub unlinked : (count ≡ 0) ⊎ Unlinks restart bytes count
+  pub touches : TouchesLog (3 + count) old new
 
 -- ---- what may be opened
 

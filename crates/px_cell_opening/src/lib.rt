@@ -7,8 +7,8 @@
 //! - `laws`: what stands for a store has no damage; what was found of one rests there once its log was cut, begins a life, and goes on once
 //!   it was tidied.
 //!
-//! `specs/Opened` says which store may be opened, and what is opened of one; `specs/Errors` what an error says and leaves. What the opening
-//! has found when it begins to tidy is in `specs/Found`.
+//! `specs/Opened` says which store may be opened, what is opened of one, and what is touched meanwhile; `specs/Errors` what an error says
+//! and leaves. What the opening has found when it begins to tidy is in `specs/Found`.
 #![tactic(auto)]
 
 mod counts;

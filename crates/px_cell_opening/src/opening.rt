@@ -1,8 +1,9 @@
-ghost use Rattle.std.specs.Prelude.{◌<◌, ◌≤◌, ⊤, ℕ, IfErr, IfOk, List};
+ghost use Rattle.std.specs.Prelude.{◌+◌, ◌<◌, ◌≤◌, ℕ, IfErr, IfOk, List};
 ghost use Rattle.px_history.specs.Store.{Store};
 ghost use Rattle.px_laid.specs.Places.{none_laid};
 ghost use Rattle.px_log.specs.Contents.{Scans, log_text};
 ghost use Rattle.px_log.specs.Log.{IsLogOf, OnlyGrew, ReadsAsBefore};
+ghost use Rattle.px_log.specs.Touching.{TouchesLog};
 ghost use Rattle.px_model.specs.declared.limits.TheConstants.{STORED_NUMBERS_END};
 ghost use Rattle.px_model.specs.declared.row.Row.{Row};
 ghost use Rattle.px_opened.specs.Damage.{IsErrorIn};
@@ -17,7 +18,7 @@ ghost use Rattle.px_cell_standing.specs.Images.{KeepsStanding};
 ghost use Rattle.px_cell_standing.specs.Settled.{Settled};
 ghost use Rattle.px_cell_opening.specs.Errors.{HasCellsCause, HasRefusal, IsFileFault, IsPassing, LeavesDamaged};
 ghost use Rattle.px_cell_opening.specs.Found.{HasFound, HoldsTables, Rests};
-ghost use Rattle.px_cell_opening.specs.Opened.{IsTidiedOf, MayOpen, OpensAs, WorksFrom};
+ghost use Rattle.px_cell_opening.specs.Opened.{IsTidiedOf, MayOpen, OpensAs, TouchesAsOpened, WorksFrom, store_of, tidied_count};
 
 use crate::counts::{commits_of, redone_of};
 use crate::error::CellsError;
@@ -73,7 +74,7 @@ pub fn open_cells<W: Site>(
     ensures sound { W.tells → (commits : ℕ) (rows : List Row) → MayOpen restart.now commits rows (W.state site.old) → IfErr result IsPassing }
     ensures refused { W.tells → IfErr result (HasRefusal restart.now ((W.state site.old).content the_log)) }
     ensures kept { W.tells → IfErr result (LeavesDamaged (W.state site.old) (W.state site.new)) }
-    ensures log_alone { W.tells → EachMoment (OnFile the_log (W.state site.old).now (λ file. ⊤)) (W.state site.old) (W.state site.new) }
+    ensures touches { W.tells → TouchesAsOpened restart.now ((W.state site.old).content the_log) (W.state site.old) (W.state site.new) }
     ensures own { IfErr result IsFileFault }
     ensures cause { IfErr result (HasCellsCause (W.counts site.old) (W.counts site.new)) }
     ensures none_fell { NoneFell (W.counts site.old) (W.counts site.new) }
@@ -107,7 +108,7 @@ fn find_cells<W: Site>(alloc: Global, site: &mut W, restart: &Restart) -> Result
         → EachMoment (OnFile the_log (W.state site.old).now (ReadsAsBefore ((W.state site.old).now.files the_log))) (W.state site.old) (W.state site.new) }
     ensures refused { W.tells → IfErr result (HasRefusal restart.now ((W.state site.old).content the_log)) }
     ensures kept { W.tells → IfErr result (LeavesDamaged (W.state site.old) (W.state site.new)) }
-    ensures log_alone { W.tells → EachMoment (OnFile the_log (W.state site.old).now (λ file. ⊤)) (W.state site.old) (W.state site.new) }
+    ensures touches { W.tells → TouchesLog 2 (W.state site.old) (W.state site.new) }
     ensures own { IfErr result IsFileFault }
     ensures cause { IfErr result (HasCellsCause (W.counts site.old) (W.counts site.new)) }
     ensures none_fell { NoneFell (W.counts site.old) (W.counts site.new) }
@@ -151,7 +152,9 @@ fn tidy_found<W: Site>(
     ensures tidied { IfOk result (IsTidiedOf restart.now found (W.state site.new)) }
     ensures refused { W.tells → (bytes : List ℕ) → Scans restart.now bytes found.changes → IfErr result (HasRefusal restart.now bytes) }
     ensures sound { W.tells → IfErr result IsPassing }
-    ensures log_alone { W.tells → EachMoment (OnFile the_log (W.state site.old).now (λ file. ⊤)) (W.state site.old) (W.state site.new) }
+    ensures touches { (has : HasFound restart.now found)
+        → W.tells → TouchesLog (tidied_count restart.now.tables (store_of restart.now found.changes found.next has.holds.found has.holds.layouts) + 1)
+        (W.state site.old) (W.state site.new) }
     ensures own { IfErr result IsFileFault }
     ensures cause { IfErr result (HasCellsCause (W.counts site.old) (W.counts site.new)) }
     ensures none_fell { NoneFell (W.counts site.old) (W.counts site.new) }

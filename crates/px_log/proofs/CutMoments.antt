@@ -1,7 +1,6 @@
 -- The moments at which a log is cut.
 use Rattle.std.proofs.Common.{◌≡◌, ℕ, List, length, take, drop, Result, Ok, refl, sym, ap, subst, ◌∙◌, inl, inr}
 use Rattle.std.proofs.lemmas.List.{take_at}
-use Rattle.std.specs.Prelude.{⊤}
 use Rattle.px_site.specs.declared.name.FileName.{FileName}
 use Rattle.px_site.specs.declared.error.SiteError.{SiteError}
 use Rattle.px_site.specs.Disk.{Cut, FileState, IsImage, at_rest}
@@ -76,9 +75,3 @@ pub opening_left : (s0 s1 s2 : State) (changes : List Change) (stop : ℕ) → s
 opening_left s0 s1 s2 changes stop same scan left =
     let here = subst (λ (s : State). Stands the_log s (at_rest (take stop (s.content the_log))) (take stop (s.content the_log)) s2) same left in
     subst (λ (b : List ℕ). Stands the_log s0 (at_rest b) b s2) (taken (s0.content the_log) changes stop scan) here
-
--- whatever the log's file is then
-pub alone_moments : (P : State → FileState → Type 0) {s0 s1 s2 : State} → s1 ≡ s0 → EachMoment (OnFile the_log s1.now (P s1)) s1 s2 → EachMoment (OnFile the_log s0.now (λ file. ⊤)) s0 s2
-alone_moments P {s0} {s1} {s2} same moments =
-    let here = subst (λ (s : State). EachMoment (OnFile the_log s.now (P s)) s s2) same moments in
-    weaker_moments (λ m on. record { this = tt; others = on.others; told = on.told; telling = on.telling }) here

@@ -9,5 +9,6 @@ pub mod Held
 pub mod LogReading
 pub mod OtherFiles
 pub mod Refusals
+pub mod Touching
 pub mod Windows
 pub mod Alone

@@ -4,4 +4,5 @@ pub mod Log
 pub mod MayStand
 pub mod Scanned
 pub mod Scanning
+pub mod Touching
 pub mod Window

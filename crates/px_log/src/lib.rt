@@ -11,8 +11,8 @@
 //! - `error`: why a frame isn't appended, and why a log isn't opened.
 //!
 //! The definitions: `specs/MayStand` which changes a log may have; `specs/Contents` what its bytes are, and where they are
-//! damaged; `specs/Log` the log at every moment; `specs/Scanned` what was read of it; `specs/Errors` causes; `specs/Scanning` and
-//! `specs/Window` how it is read.
+//! damaged; `specs/Log` the log at every moment; `specs/Scanned` what was read of it; `specs/Errors` causes; `specs/Touching` that
+//! no other file changes, and how many changing calls are made; `specs/Scanning` and `specs/Window` how it is read.
 //! What a crash leaves of its bytes is px_xlog's `specs/Written`. The payloads of frames are px_change's.
 #![tactic(auto)]
 

@@ -1,4 +1,4 @@
-ghost use Rattle.std.specs.Prelude.{◌≡◌, ⊤, ◌^◌, ◌≤◌, length, take, IfOk, IfErr, OnOk};
+ghost use Rattle.std.specs.Prelude.{◌≡◌, ◌^◌, ◌≤◌, length, take, IfOk, IfErr, OnOk};
 ghost use Rattle.px_site.specs.Cause.{NoneFell};
 ghost use Rattle.px_site.specs.Disk.{at_rest};
 ghost use Rattle.px_site.specs.State.{EachMoment, OnFile, Stands};
@@ -9,6 +9,7 @@ ghost use Rattle.px_log.specs.Contents.{Scans, log_text};
 ghost use Rattle.px_xlog.specs.Contents.{the_log};
 ghost use Rattle.px_log.specs.Scanned.{IsScan, log_of};
 ghost use Rattle.px_log.specs.Scanning.{ScansTo};
+ghost use Rattle.px_log.specs.Touching.{TouchesLog};
 
 use crate::place::log_file;
 use crate::reader::{LogScan, read_log};
@@ -38,7 +39,7 @@ pub fn open_log<W: Site>(
     ensures untouched { W.tells → IfErr result (λ error. LeavesSite (W.state site.old) (W.state site.new) (W.counts site.old) (W.counts site.new) error) }
     ensures moments { W.tells → OnlyGrew ((W.state site.old).now.files the_log) ((W.state site.old).content the_log)
         → EachMoment (OnFile the_log (W.state site.old).now (ReadsAsBefore ((W.state site.old).now.files the_log))) (W.state site.old) (W.state site.new) }
-    ensures log_alone { W.tells → EachMoment (OnFile the_log (W.state site.old).now (λ file. ⊤)) (W.state site.old) (W.state site.new) }
+    ensures touches { W.tells → TouchesLog 2 (W.state site.old) (W.state site.new) }
     ensures none_fell { NoneFell (W.counts site.old) (W.counts site.new) }
     ensures fault { IfErr result (CountsLogFault (W.counts site.old) (W.counts site.new)) }
     ensures own { IfErr result IsFileFault }
@@ -91,7 +92,7 @@ impl LogScan {
         ensures left { W.tells → OnOk result (Stands the_log (W.state site.old) (at_rest (log_text self.changes)) (log_text self.changes) (W.state site.new)) }
         ensures moments { W.tells → OnlyGrew ((W.state site.old).now.files the_log) ((W.state site.old).content the_log)
             → EachMoment (OnFile the_log (W.state site.old).now (ReadsAsBefore ((W.state site.old).now.files the_log))) (W.state site.old) (W.state site.new) }
-        ensures log_alone { W.tells → EachMoment (OnFile the_log (W.state site.old).now (λ file. ⊤)) (W.state site.old) (W.state site.new) }
+        ensures touches { W.tells → TouchesLog 2 (W.state site.old) (W.state site.new) }
         ensures untouched { W.tells → IfErr result (λ error. LeavesSite (W.state site.old) (W.state site.new) (W.counts site.old) (W.counts site.new) error) }
         ensures none_fell { NoneFell (W.counts site.old) (W.counts site.new) }
         ensures cause { IfErr result (IsOfSite (W.counts site.old) (W.counts site.new)) }
@@ -114,6 +115,7 @@ fn cut_log<W: Site>(site: &mut W, stop: u64) -> Result<(), LogOpenError>
         (at_rest (take stop ((W.state site.old).content the_log))) (take stop ((W.state site.old).content the_log)) (W.state site.new)) }
     ensures moments { W.tells → EachMoment (OnFile the_log (W.state site.old).now
         (IsCutting stop ((W.state site.old).now.files the_log) ((W.state site.old).content the_log))) (W.state site.old) (W.state site.new) }
+    ensures touches { W.tells → TouchesLog 2 (W.state site.old) (W.state site.new) }
     ensures untouched { W.tells → IfErr result (λ error. LeavesSite (W.state site.old) (W.state site.new) (W.counts site.old) (W.counts site.new) error) }
     ensures none_fell { NoneFell (W.counts site.old) (W.counts site.new) }
     ensures cause { IfErr result (IsOfSite (W.counts site.old) (W.counts site.new)) }

@@ -1,12 +1,11 @@
-ghost use Rattle.std.specs.Prelude.{◌≡◌, ⊤, ℕ, ◌*◌, ◌^◌, ◌≤◌, true, false, List, [], ◌∷◌, ◌++◌, Some, IfOk, IfErr, IsErrOf, OnOk, OnErr};
+ghost use Rattle.std.specs.Prelude.{◌≡◌, ℕ, ◌*◌, ◌^◌, ◌≤◌, true, List, [], ◌∷◌, ◌++◌, Some, IfOk, IfErr, IsErrOf, OnOk, OnErr};
 ghost use Rattle.px_change.specs.Grammar.{may_hold};
 ghost use Rattle.px_change.specs.declared.change.Change.{Change};
 ghost use Rattle.px_site.specs.Cause.{HasCause, IsOwn, NoneFell, Rose};
-ghost use Rattle.px_site.specs.Names.{same_file};
 ghost use Rattle.px_site.specs.State.{EachMoment, OnFile, OnShort};
-ghost use Rattle.px_site.specs.declared.name.FileName.{FileName};
 ghost use Rattle.px_log.specs.Errors.{HasLogCause, IsFaultOf, LeavesUntouched, OnShortage};
 ghost use Rattle.px_log.specs.Log.{HasFirst, IsLogOf, full_at, with_frame};
+ghost use Rattle.px_log.specs.Touching.{TouchesLog};
 ghost use Rattle.px_log.specs.Window.{longest_frame};
 ghost use Rattle.px_xlog.specs.Contents.{the_log};
 
@@ -72,11 +71,9 @@ impl Xlog {
         ensures logged { W.tells → (changes : List Change) → IsLogOf self.old changes (W.state site.old)
             → OnOk result (IsLogOf self.new (changes ++ change.now ∷ []) (W.state site.new)) }
         ensures untouched { W.tells → IfErr result (LeavesUntouched (W.state site.old) (W.state site.new)) }
-        ensures others { W.tells → (name : FileName) → same_file the_log name ≡ false
-            → (W.state site.new).content name ≡ (W.state site.old).content name }
         ensures moments { W.tells → (changes : List Change) → IsLogOf self.old changes (W.state site.old)
             → EachMoment (OnFile the_log (W.state site.old).now (HasFirst self.old.durable (changes ++ change.now ∷ []))) (W.state site.old) (W.state site.new) }
-        ensures log_alone { W.tells → EachMoment (OnFile the_log (W.state site.old).now (λ file. ⊤)) (W.state site.old) (W.state site.new) }
+        ensures touches { W.tells → TouchesLog 1 (W.state site.old) (W.state site.new) }
         ensures full { full_at self.old ≡ Some self.old.frames → IsErrOf result (LogError.LogFull self.old.frames) }
         ensures room { change.now.cells ≡ []
             → IfErr result (λ error. OnShortage error (Rose (W.counts site.old).shorts (W.counts site.new).shorts)) }
@@ -105,11 +102,9 @@ impl Xlog {
             → OnOk result (IsLogOf self.new changes (W.state site.new)) }
         ensures idle { W.tells → self.old.durable ≡ self.old.frames → W.state site.new ≡ W.state site.old }
         ensures untouched { W.tells → OnShort result (W.state site.new ≡ W.state site.old) }
-        ensures others { W.tells → (name : FileName) → same_file the_log name ≡ false
-            → (W.state site.new).content name ≡ (W.state site.old).content name }
         ensures moments { W.tells → (changes : List Change) → IsLogOf self.old changes (W.state site.old)
             → EachMoment (OnFile the_log (W.state site.old).now (HasFirst self.old.durable changes)) (W.state site.old) (W.state site.new) }
-        ensures log_alone { W.tells → EachMoment (OnFile the_log (W.state site.old).now (λ file. ⊤)) (W.state site.old) (W.state site.new) }
+        ensures touches { W.tells → TouchesLog 1 (W.state site.old) (W.state site.new) }
         ensures none_fell { NoneFell (W.counts site.old) (W.counts site.new) }
         ensures cause { IfErr result (HasCause (W.counts site.old) (W.counts site.new)) }
         ensures own { IfErr result (IsOwn Fault.Sync) }

@@ -1,3 +1,4 @@
+pub mod Again
 pub mod Alike
 pub mod Beginning
 pub mod Begun
@@ -16,3 +17,4 @@ pub mod Settling
 pub mod Sound
 pub mod Still
 pub mod Syncing
+pub mod Touched

@@ -3,3 +3,4 @@ pub mod Counting
 pub mod Errors
 pub mod Making
 pub mod Opening
+pub mod Touching

@@ -8,8 +8,9 @@
 //! - `error`: `MakeError` and `OpenError`, why a store isn't made or opened, and the status by which each ends a run.
 //!
 //! The definitions: `specs/Making` which sites are free, and what `make` leaves of them, at each of its moments too; `specs/Opening`
-//! what an opening gives, that what is found is one, and that nothing is told meanwhile; `specs/Cells` and `specs/Counting` when cells
-//! are those of what was found, and keys those of rows; `specs/Errors` causes, what a refusal says of the files, and what it leaves.
+//! what an opening gives, that what is found is one, and that nothing is told meanwhile; `specs/Touching` which files it touches, in how
+//! many calls, and that it may be tried again; `specs/Cells` and `specs/Counting` when cells are those of what was found, and keys those of
+//! rows; `specs/Errors` causes, what a refusal says of the files, and what it leaves.
 #![tactic(auto)]
 
 mod counting;

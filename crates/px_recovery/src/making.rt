@@ -4,6 +4,7 @@ ghost use Rattle.px_site.specs.Cause.{HasCause, NoneFell};
 ghost use Rattle.px_site.specs.Names.{same_file};
 ghost use Rattle.px_site.specs.State.{EachMoment};
 ghost use Rattle.px_site.specs.declared.name.FileName.{FileName};
+ghost use Rattle.px_log.specs.Touching.{ChangesAtMost};
 ghost use Rattle.px_restart.specs.Restart.{CanRestart};
 ghost use Rattle.px_cell_standing.specs.Images.{CanMake};
 ghost use Rattle.px_cell_standing.specs.Settled.{Settled};
@@ -32,6 +33,7 @@ pub fn make<W: Site>(site: &mut W, tables: u32, short: u32) -> Result<(), MakeEr
     ensures moments { W.tells → CanMake (W.state site.old) → EachMoment (StaysNew (W.state site.old).now) (W.state site.old) (W.state site.new) }
     ensures first_alone { W.tells → EachMoment (WritesFirstFile (first_saved tables short) (W.state site.old)) (W.state site.old) (W.state site.new) }
     ensures others { W.tells → (name : FileName) → same_file first_file name ≡ false → (W.state site.new).content name ≡ (W.state site.old).content name }
+    ensures few { W.tells → ChangesAtMost 2 (W.state site.old) (W.state site.new) }
     ensures spared { W.tells → (IsFree (W.state site.old).content → ⊥) → W.state site.new ≡ W.state site.old }
     ensures refused { W.tells → IfErr result (LeavesUnmade (W.state site.old) (W.state site.new)) }
     ensures none_fell { NoneFell (W.counts site.old) (W.counts site.new) }
@@ -108,6 +110,7 @@ fn write_restart<W: Site>(site: &mut W, restart: &Restart) -> Result<(), SiteErr
     ensures written { W.tells → OnOk result (IsWritten restart.now (W.state site.old) (W.state site.new)) }
     ensures moments { W.tells → EachMoment (WritesFirstFile restart.now (W.state site.old)) (W.state site.old) (W.state site.new) }
     ensures others { W.tells → (name : FileName) → same_file first_file name ≡ false → (W.state site.new).content name ≡ (W.state site.old).content name }
+    ensures few { W.tells → ChangesAtMost 2 (W.state site.old) (W.state site.new) }
     ensures none_fell { NoneFell (W.counts site.old) (W.counts site.new) }
     ensures cause { IfErr result (HasCause (W.counts site.old) (W.counts site.new)) }
     ensures own { IfErr result IsOfChange }

@@ -9,6 +9,7 @@ ghost use Rattle.px_cell_standing.specs.Settled.{Settled};
 ghost use Rattle.px_standing.specs.Files.{HasNoRestart};
 ghost use Rattle.px_recovery.specs.Errors.{CountsFault, FindsNoRoom, HasRefusal, IsAbsence, IsPassing, KeepsContent, SaysNothing};
 ghost use Rattle.px_recovery.specs.Opening.{BeginsWith, OpensAs, OpensTo, TellsNothing, core_of, site_after};
+ghost use Rattle.px_recovery.specs.Touching.{SettlesLater, TouchesOwnFiles};
 ghost use Rattle.px_active.specs.Active.{IsActiveOf};
 ghost use Rattle.px_cell_opening.specs.Opened.{WorksFrom};
 ghost use Rattle.px_core.specs.Working.{MayBegin, WorksFor};
@@ -32,6 +33,7 @@ use crate::laws::{
 use crate::restarts::{read_restart, sync_restarts};
 use px_active::Active;
 use px_cell_opening::{Cells, open_cells};
+use px_cell_standing::what_own_files_leave_is_settled;
 use px_core::Core;
 use px_held::Held;
 use px_log::Xlog;
@@ -84,6 +86,8 @@ pub fn open_store<W: Site>(alloc: Global, site: W) -> Result<Opened<W>, NotOpene
     ensures moments { W.tells → (commits : ℕ) (rows : List Row) → Settled (W.state site) commits rows
         → EachMoment (KeepsStanding commits rows (W.state site).now) (W.state site) (W.state (site_after result)) }
     ensures quiet { W.tells → EachMoment (TellsNothing (W.state site).now) (W.state site) (W.state (site_after result)) }
+    ensures touches { W.tells → TouchesOwnFiles (W.state site) (W.state (site_after result)) }
+    ensures again { W.tells → (commits : ℕ) (rows : List Row) → Settled (W.state site) commits rows → SettlesLater commits rows (W.state (site_after result)).now }
     ensures told { W.tells → (W.state (site_after result)).now.told ≡ (W.state site).now.told }
     ensures refused { W.tells → IfErr result (λ refused. HasRefusal (W.state site).content refused.error) }
     ensures absent { W.tells → HasNoRestart (W.state site).content → IfErr result (λ refused. IsAbsence refused.error) }
@@ -95,6 +99,7 @@ pub fn open_store<W: Site>(alloc: Global, site: W) -> Result<Opened<W>, NotOpene
 {
     what_is_found_has_room();
     what_is_found_is_not_refused();
+    what_own_files_leave_is_settled();
     let mut site = site;
     match open_parts(alloc, &mut site) {
         Ok(parts) => Ok(parts.over(alloc, site)),
@@ -143,6 +148,7 @@ fn open_parts<W: Site>(alloc: Global, site: &mut W) -> Result<Parts, OpenError>
     ensures moments { W.tells → (commits : ℕ) (rows : List Row) → Settled (W.state site.old) commits rows
         → EachMoment (KeepsStanding commits rows (W.state site.old).now) (W.state site.old) (W.state site.new) }
     ensures quiet { W.tells → EachMoment (TellsNothing (W.state site.old).now) (W.state site.old) (W.state site.new) }
+    ensures touches { W.tells → TouchesOwnFiles (W.state site.old) (W.state site.new) }
     ensures refused { W.tells → IfErr result (HasRefusal (W.state site.old).content) }
     ensures absent { W.tells → HasNoRestart (W.state site.old).content → IfErr result IsAbsence }
     ensures kept { W.tells → IfErr result (KeepsContent (W.state site.old) (W.state site.new)) }

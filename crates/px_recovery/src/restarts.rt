@@ -6,6 +6,8 @@ ghost use Rattle.px_model.specs.declared.row.Row.{Row};
 ghost use Rattle.px_restart.specs.Restart.{CanRestart, IsPicked};
 ghost use Rattle.px_cell_standing.specs.Images.{KeepsStanding};
 ghost use Rattle.px_cell_standing.specs.Settled.{IsAlone, Settled};
+ghost use Rattle.px_cell_standing.specs.Touching.{TouchesOwn};
+ghost use Rattle.px_log.specs.Touching.{ChangesAtMost};
 ghost use Rattle.px_standing.specs.Files.{HasNoRestart, first_restart, second_restart};
 ghost use Rattle.px_standing.specs.Resting.{RestartsRest};
 ghost use Rattle.px_recovery.specs.Errors.{IsOfFile};
@@ -49,6 +51,8 @@ pub(crate) fn sync_restarts<W: Site>(site: &mut W) -> Result<(), SiteError>
     ensures standing { W.tells → (commits : ℕ) (rows : List Row) → Settled (W.state site.old) commits rows
         → EachMoment (KeepsStanding commits rows (W.state site.old).now) (W.state site.old) (W.state site.new) }
     ensures quiet { W.tells → EachMoment (TellsNothing (W.state site.old).now) (W.state site.old) (W.state site.new) }
+    ensures own_files { W.tells → EachMoment (TouchesOwn (W.state site.old)) (W.state site.old) (W.state site.new) }
+    ensures few { W.tells → ChangesAtMost 2 (W.state site.old) (W.state site.new) }
     ensures none_fell { NoneFell (W.counts site.old) (W.counts site.new) }
     ensures cause { IfErr result (HasCause (W.counts site.old) (W.counts site.new)) }
     ensures own { IfErr result IsOfFile }

@@ -1,4 +1,5 @@
-use crate::files::{FIRST, LOG, MADE, SAVED, SECOND};
+use crate::files::{FIRST, FRAMES, LOG, MADE, SAVED, SECOND};
+use crate::stores::store;
 use px_memsite::MemSite;
 use px_recovery::{MakeError, make};
 use px_site::{Fault, FileName};
@@ -54,6 +55,27 @@ fn each_call_of_make_may_fail(rt: HostRuntime) -> Result<(), Fail> {
         let mut site = MemSite::failing(rt.alloc(), &[call])?;
         assert_eq!(rt; make(&mut site, 1, 16), Err(MakeError::Fault(fault)));
         assert_eq!(rt; make(&mut site, 1, 16), again);
+    }
+    Ok(())
+}
+
+#[test]
+fn a_store_stays_whichever_call_of_make_fails(rt: HostRuntime) -> Result<(), Fail> {
+    // the first listing finds the log, and nothing more is asked
+    for (call, error) in [
+        (0, MakeError::Fault(Fault::List)),
+        (1, MakeError::NotEmpty),
+        (2, MakeError::NotEmpty),
+        (3, MakeError::NotEmpty),
+        (4, MakeError::NotEmpty),
+        (5, MakeError::NotEmpty),
+    ] {
+        let mut site = store(&rt, rt.alloc(), &[call], FRAMES.as_slice())?;
+        let moments = site.moments();
+        assert_eq!(rt; make(&mut site, 1, 16), Err(error), "call {call}");
+        assert_eq!(rt; site.moments(), moments, "call {call}");
+        assert_eq!(rt; site.content(FIRST), MADE.as_slice());
+        assert_eq!(rt; site.content(LOG), FRAMES.as_slice());
     }
     Ok(())
 }

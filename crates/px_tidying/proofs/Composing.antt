@@ -1,33 +1,21 @@
 -- Calls one after the other: which steps they made, and that a store lasts through them.
-use Rattle.std.proofs.Common.{◌≡◌, ℕ, ◌+◌, ◌≤◌, List, [], ◌∷◌, ◌++◌, length, refl, sym, ap, subst, ◌∙◌, arith, length-append}
-use Rattle.std.specs.List.{AllByRecursion}
+use Rattle.std.proofs.Common.{◌≡◌, ℕ, ◌+◌, ◌≤◌, List, [], ◌++◌, length, refl, sym, ap, subst, ◌∙◌, arith, length-append}
 use Rattle.std.proofs.lemmas.Grind.{fold-append}
 use Rattle.px_beginning.proofs.Steps.{last_steps}
 use Rattle.px_beginning.specs.Tidied.{with_steps}
 use Rattle.px_history.specs.Steps.{Step, after_step, after_steps}
 use Rattle.px_history.specs.Store.{Store}
 use Rattle.px_life.specs.Life.{Life}
+use Rattle.px_log.proofs.Touching.{last_moment, none_touched, touches_less, touches_then}
 use Rattle.px_model.specs.Machine.{Machine}
 use Rattle.px_reached.specs.Reachable.{Marks}
 use Rattle.px_restart.specs.declared.restart.Restart.{Restart}
 use Rattle.px_shown.specs.Parts.{Parts}
-use Rattle.px_site.proofs.Moments.{no_moment, same_moment, then_moments, weaker_moments}
-use Rattle.px_site.specs.State.{EachMoment, Moment, State, history}
+use Rattle.px_site.proofs.Moments.{same_moment, then_moments, weaker_moments}
+use Rattle.px_site.specs.State.{State}
 use Rattle.px_working.specs.Follows.{last_store, with_step}
 use Rattle.px_working.specs.Lasts.{Lasts}
 use Rattle.px_tidying.specs.Opening.{HasLife, HasStore, LastsStill, LastsThrough, Made, Opening}
-
--- ---- the last moment
-
-same_head : {X : Type 0} (x y : X) (xs ys : List X) → x ∷ xs ≡ y ∷ ys → x ≡ y
-same_head x y xs ys same = cc
-
-pub last_moment : (P : Moment → Type 0) (old new : State) → P old.now → EachMoment P old new → P new.now
-last_moment P old new here moments = by_added moments.added moments.grown moments.each
-  where
-    by_added : (added : List Moment) → history new ≡ added ++ history old → AllByRecursion P added → P new.now
-    by_added [] grown each = subst P (sym (same_head new.now old.now new.past old.past grown)) here
-    by_added (m ∷ added) grown each = subst P (sym (same_head new.now m new.past (added ++ history old) grown)) each.0
 
 -- ---- calls that only read
 
@@ -62,6 +50,7 @@ none_made tells store old new reads has = record {
   after = reads.store store has;
   frames = let same : old.log.frames + 0 ≡ old.log.frames = omega arith in ap (λ log. log.frames) reads.log ∙ sym same;
   tables = ap (λ log. log.tables) reads.log;
+  touches = λ t. none_touched (reads.site t);
   life = λ t parts least m life restart marks its had. still_life tells parts least m life restart marks old new reads t had;
 }
 
@@ -74,6 +63,7 @@ made_still tells store steps a b c made reads = record {
   after = reads.store (after_steps store steps) made.after;
   frames = ap (λ log. log.frames) reads.log ∙ made.frames;
   tables = ap (λ log. log.tables) reads.log ∙ made.tables;
+  touches = λ t. touches_less (omega arith) (touches_then (made.touches t) (none_touched (reads.site t)));
   life = λ t parts least m life restart marks its had.
       still_life tells parts least m (with_steps restart.short life steps) restart marks b c reads t (made.life t parts least m life restart marks its had);
 }
@@ -89,6 +79,7 @@ both_made tells store steps more a b c first second = record {
       let two = second.frames in
       omega (arith, one, two, length-append steps more);
   tables = second.tables ∙ first.tables;
+  touches = λ t. touches_less (omega (arith, length-append steps more)) (touches_then (first.touches t) (second.touches t));
   life = λ t parts least m life restart marks its has.
       let middle = first.life t parts least m life restart marks its has in
       let at : last_store (with_steps restart.short life steps) ≡ after_steps store steps =
@@ -105,7 +96,7 @@ both_last tells store steps a b c made first second t parts least m life restart
     last_steps restart.short life steps has.lasts.is_life.count ∙ ap (λ (s : Store). after_steps s steps) its in
     let before = first t parts least m life restart marks its has in
     let told : b.site.now.told ≡ a.site.now.told =
-    last_moment (λ now. now.told ≡ a.site.now.told) a.site b.site refl (weaker_moments (λ now still. still.told) before) in
+    last_moment (λ now. now.told ≡ a.site.now.told) refl (weaker_moments (λ now still. still.told) before) in
     then_moments before
     (weaker_moments (λ now still. record { life = still.life; marks = still.marks; lasts = still.lasts; told = still.told ∙ told; telling = still.telling })
     (second t parts least m (with_steps restart.short life steps) restart marks at middle))

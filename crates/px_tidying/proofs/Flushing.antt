@@ -18,7 +18,7 @@ use Rattle.px_working.specs.Follows.{last_store}
 use Rattle.px_working.specs.Lasts.{HasOthersOf, Lasts, LeavesFronts}
 use Rattle.px_xlog.specs.Contents.{the_log}
 use Rattle.px_tidying.specs.Opening.{HasLife, HasStore, LastsStill, LastsThrough, Opening}
-use Rattle.px_tidying.proofs.Composing.{last_moment}
+use Rattle.px_log.proofs.Touching.{last_moment}
 use Rattle.px_tidying.proofs.Made.{log_first}
 
 -- at each moment of it the log has the fronts that it had
@@ -61,7 +61,7 @@ pub flush_life : (tells : Type 0) (parts : Parts) (least : ℕ) (m : Machine) (l
 flush_life tells parts least m life restart marks old new tell has held log logged moments =
     let store = flush_store (last_store life) old new has.store held log in
     let others : HasOthersOf old.site.now new.site.now =
-    last_moment (HasOthersOf old.site.now) old.site new.site (λ name away. refl) (weaker_moments (λ now on. on.others) (moments tell life.changes has.logged)) in
+    last_moment (HasOthersOf old.site.now) (λ name away. refl) (weaker_moments (λ now on. on.others) (moments tell life.changes has.logged)) in
     let known = has.lasts.segment.known in
     let count = has.logged.count in
     let whole : old.log.frames ≡ end_of life = omega (arith, known, count) in

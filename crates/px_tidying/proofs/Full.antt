@@ -63,6 +63,9 @@ rows_grow store t a (suc b) to = ⊎_elim
     (cases_eq a (suc b))
 
 -- the steps up to a used row are no more than those of its table
+pub up_to_row : (store : Store) (t row : ℕ) → IsUsedRow (store.tables t) row → length (tidying_rows store t row) ≤ length (tidying_table store t)
+up_to_row store t row used = rows_grow store t row (store.tables t).header.rows used.0.1
+
 pub up_to_used : (store : Store) (t last row : ℕ) (more : List Step) → IsUsedRow (store.tables t) row → tidying_rows store t last ++ more ≡ tidying_rows store t row
     → length (tidying_rows store t last) + length more ≤ length (tidying_table store t)
 up_to_used store t last row more used are =

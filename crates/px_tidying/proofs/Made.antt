@@ -36,6 +36,7 @@ use Rattle.px_life.specs.Life.{Life, end_of, grown, store_at}
 use Rattle.px_log.proofs.Appending.{first_survive}
 use Rattle.px_log.proofs.FramesOfChanges.{can_frames}
 use Rattle.px_log.specs.Log.{HasFirst, IsLogOf, Log, with_frame}
+use Rattle.px_log.specs.Touching.{TouchesLog}
 use Rattle.px_model.specs.Machine.{Machine}
 use Rattle.px_model.specs.declared.limits.TheConstants.{MOST_TABLES}
 use Rattle.px_opened.proofs.Kept.{steps_held}
@@ -56,7 +57,7 @@ use Rattle.px_xlog.specs.Contents.{the_log}
 use Rattle.px_beginning.specs.Tidied.{with_steps}
 use Rattle.px_tidying.specs.Going.{MayGo}
 use Rattle.px_tidying.specs.Opening.{HasLife, HasStore, LastsStill, LastsThrough, Made, Opening}
-use Rattle.px_tidying.proofs.Composing.{last_moment}
+use Rattle.px_log.proofs.Touching.{last_moment}
 
 abbrev pub unlink_of : (t row place : ℕ) → Step
 unlink_of t row place = Step.unlink t row place 1
@@ -213,7 +214,7 @@ module _ (parts : Parts) (least : ℕ) (m : Machine) (life : Life) (restart : Re
       → HasLife parts least m (with_step restart.short life (unlink_of t row place)) restart marks new
   life_left given new is left log logged moments =
       let others : HasOthersOf old.site.now new.site.now =
-      last_moment (HasOthersOf old.site.now) old.site new.site (λ name away. refl) (weaker_moments (λ now on. on.others) moments) in
+      last_moment (HasOthersOf old.site.now) (λ name away. refl) (weaker_moments (λ now on. on.others) moments) in
       let same = same_change given is in
       let durable : new.log.durable ≡ marks.durable = ap (λ (l : Log). l.durable) log ∙ has.durable in
       let whole : IsLogOf new.log (life.changes ++ change ∷ []) new.site = subst (λ (c : Change). IsLogOf new.log (life.changes ++ c ∷ []) new.site) same logged in
@@ -236,14 +237,15 @@ pub one_made : (tells : Type 0) (store : Store) (t row place : ℕ) (version : U
     → (tells → (changes : List Change) → IsLogOf old.log changes old.site → IsLogOf new.log (changes ++ change ∷ []) new.site)
     → (tells → (changes : List Change) → IsLogOf old.log changes old.site
     → EachMoment (OnFile the_log old.site.now (HasFirst old.log.durable (changes ++ change ∷ []))) old.site new.site)
-    → Made tells store (unlink_of t row place ∷ []) old new
-one_made tells store t row place version old new change has may is serves form log below logged moments =
+    → (tells → TouchesLog 1 old.site new.site) → Made tells store (unlink_of t row place ∷ []) old new
+one_made tells store t row place version old new change has may is serves form log below logged moments touches =
     let more = ap (λ (l : Log). l.frames) log in
     let left = store_left store t row place version old new change has may serves form log (omega (arith, more, below)) in
     record {
       after = left;
       frames = more;
       tables = ap (λ (l : Log). l.tables) log;
+      touches = touches;
       life = λ tell parts least m life restart marks its had.
           life_left parts least m life restart marks t row place version old had (subst (λ (s : Store). MayGo s t row place version) (sym its) may) change new
           (subst (λ (s : Store). change ≡ change_of old.held.short s (unlink_of t row place)) (sym its) is)

@@ -1,33 +1,23 @@
--- Only the log's file changes, and nothing is told.
-use Rattle.std.proofs.Common.{◌≡◌, false, refl, ◌∙◌}
-use Rattle.std.specs.Prelude.{⊤}
-use Rattle.px_site.proofs.Moments.{same_moment, then_moments, weaker_moments}
-use Rattle.px_site.specs.Names.{same_file}
-use Rattle.px_site.specs.State.{EachMoment, Moment, OnFile, State}
-use Rattle.px_site.specs.declared.name.FileName.{FileName}
-use Rattle.px_xlog.specs.Contents.{the_log}
-use Rattle.px_tidying.proofs.Composing.{last_moment}
+-- Nothing but the log is touched, in no more calls than there are frames to be written, and one.
+use Rattle.std.proofs.Common.{ℕ, ◌+◌, ◌≤◌, List, length, arith}
+use Rattle.px_history.specs.Steps.{Step}
+use Rattle.px_history.specs.Store.{Store}
+use Rattle.px_log.proofs.Touching.{none_touched, touches_less, touches_then}
+use Rattle.px_log.specs.Touching.{TouchesLog}
+use Rattle.px_site.specs.State.{State}
+use Rattle.px_tidying.specs.Opening.{Made, Opening}
+use Rattle.std.specs.Prelude.{◌≡◌}
 
-abbrev pub LogAlone : (old new : State) → Type 0
-LogAlone old new = EachMoment (OnFile the_log old.now (λ file. ⊤)) old new
+-- a call behind steps that were made, which all are no more than so many
+pub touches_behind : (tells : Type 0) (store : Store) (steps : List Step) (a b : Opening) (c : State) (count all : ℕ) → tells → Made tells store steps a b → length steps + count ≤ all
+    → TouchesLog count b.site c → TouchesLog all a.site c
+touches_behind tells store steps a b c count all t made within touches = touches_less within (touches_then (made.touches t) touches)
 
--- the others are as they were, and no more was told
-record IsBesideLog (before now : Moment) : Type 0 where
-  pub others : (name : FileName) → same_file the_log name ≡ false → now.files name ≡ before.files name
-  pub told : now.told ≡ before.told
+-- and where it only reads
+pub still_behind : (tells : Type 0) (store : Store) (steps : List Step) (a b : Opening) (c : State) (all : ℕ) → tells → Made tells store steps a b → length steps ≤ all → c ≡ b.site
+    → TouchesLog all a.site c
+still_behind tells store steps a b c all t made within same = touches_behind tells store steps a b c 0 all t made (omega (arith, within)) (none_touched same)
 
-pub alone_then : (a b c : State) → LogAlone a b → LogAlone b c → LogAlone a c
-alone_then a b c first second =
-    let same : IsBesideLog a.now b.now =
-    last_moment (IsBesideLog a.now) a b (record { others = λ name away. refl; told = refl })
-    (weaker_moments (λ m on. record { others = on.others; told = on.told }) first) in
-    then_moments first
-    (weaker_moments (λ m on. record { this = tt; others = λ name away. on.others name away ∙ same.others name away; told = on.told ∙ same.told; telling = on.telling }) second)
-
--- a call that only reads, behind others
-pub alone_still : (a b c : State) → LogAlone a b → c ≡ b → LogAlone a c
-alone_still a b c first same = then_moments first (same_moment same)
-
--- or before another
-pub still_alone : (a b c : State) → b ≡ a → LogAlone b c → LogAlone a c
-still_alone a b c same second = alone_then a b c (same_moment same) second
+-- a call that only reads before it makes no difference
+pub still_then : {calls : ℕ} {a b c : State} → b ≡ a → TouchesLog calls b c → TouchesLog calls a c
+still_then same touches = touches_less (omega arith) (touches_then (none_touched same) touches)

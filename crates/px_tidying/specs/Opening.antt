@@ -8,6 +8,7 @@ use Rattle.px_history.specs.Store.{Store}
 use Rattle.px_life.specs.Front.{AreStored}
 use Rattle.px_life.specs.Life.{Life}
 use Rattle.px_log.specs.Log.{IsLogOf, Log}
+use Rattle.px_log.specs.Touching.{TouchesLog}
 use Rattle.px_model.specs.Machine.{Machine}
 use Rattle.px_model.specs.declared.limits.TheConstants.{MOST_TABLES}
 use Rattle.px_reached.specs.Reachable.{Marks}
@@ -48,12 +49,13 @@ pub record HasLife (parts : Parts) (least : ℕ) (m : Machine) (life : Life) (re
 
 -- ---- a call
 
--- These steps of the store were made: they lead to the store of the new tables, each in a frame of its own, and a life that ended in the
--- store goes on with them.
+-- These steps of the store were made: they lead to the store of the new tables, each in a frame of its own, a call for each touched the log
+-- and nothing else, and a life that ended in the store goes on with them.
 pub record Made (tells : Type 0) (store : Store) (steps : List Step) (old new : Opening) : Type 0 where
   pub after : HasStore (after_steps store steps) new
   pub frames : new.log.frames ≡ old.log.frames + length steps
   pub tables : new.log.tables ≡ old.log.tables
+  pub touches : tells → TouchesLog (length steps) old.site new.site
   pub life : tells → (parts : Parts) (least : ℕ) (m : Machine) (life : Life) (restart : Restart) (marks : Marks) → last_store life ≡ store
       → HasLife parts least m life restart marks old → HasLife parts least m (with_steps restart.short life steps) restart marks new
 

@@ -1,18 +1,17 @@
-ghost use Rattle.std.specs.Prelude.{◌≡◌, ◌+◌, ◌≤◌, ⊤, ℕ, [], ◌∷◌, IfErr, IfOk, OnOk, length};
+ghost use Rattle.std.specs.Prelude.{◌≡◌, ◌+◌, ◌≤◌, ℕ, [], ◌∷◌, IfErr, IfOk, OnOk, length};
 ghost use Rattle.px_chain.specs.Sound.{IsUsedRow};
 ghost use Rattle.px_history.specs.Steps.{Step, after_steps};
 ghost use Rattle.px_history.specs.Store.{Store};
 ghost use Rattle.px_life.specs.Life.{Life, end_of};
+ghost use Rattle.px_log.specs.Touching.{TouchesLog};
 ghost use Rattle.px_model.specs.Machine.{Machine, commits};
 ghost use Rattle.px_reached.specs.Reachable.{Marks};
 ghost use Rattle.px_restart.specs.declared.restart.Restart.{Restart};
 ghost use Rattle.px_shown.specs.Parts.{Parts};
 ghost use Rattle.px_site.specs.Cause.{NoneFell};
-ghost use Rattle.px_site.specs.State.{EachMoment, OnFile};
 ghost use Rattle.px_tidy.specs.Numbers.{done_of};
 ghost use Rattle.px_tidy.specs.Steps.{tidying_row, tidying_table, tidying_tables};
 ghost use Rattle.px_working.specs.Follows.{last_store};
-ghost use Rattle.px_xlog.specs.Contents.{the_log};
 ghost use Rattle.px_beginning.specs.Tidied.{tidied};
 ghost use Rattle.px_tidying.specs.Errors.{HasTidyCause, IsFileFault, IsFullWithin, IsPassing};
 ghost use Rattle.px_tidying.specs.Going.{HasRow, IsDoneBy, MayGo};
@@ -48,7 +47,8 @@ pub fn tidy<W: Site>(
     ensures lasts { (store : Store) → IsDoneBy (done_of done.now) store → HasStore store (opening (W.state site.old) held.old log.old)
         → LastsThrough W.tells store (opening (W.state site.old) held.old log.old) (opening (W.state site.new) held.new log.new) }
     ensures sound { W.tells → IfErr result IsPassing }
-    ensures log_alone { W.tells → EachMoment (OnFile the_log (W.state site.old).now (λ file. ⊤)) (W.state site.old) (W.state site.new) }
+    ensures touches { (store : Store) → IsDoneBy (done_of done.now) store → HasStore store (opening (W.state site.old) held.old log.old)
+        → W.tells → TouchesLog (length (tidying_tables store tables) + 1) (W.state site.old) (W.state site.new) }
     ensures full { (store : Store) → IsDoneBy (done_of done.now) store → HasStore store (opening (W.state site.old) held.old log.old)
         → IfErr result (IsFullWithin log.old.frames (log.old.frames + length (tidying_tables store tables))) }
     ensures own { IfErr result IsFileFault }
@@ -76,7 +76,8 @@ fn tidy_tables<W: Site>(
     ensures lasts { (store : Store) → IsDoneBy (done_of done.now) store → HasStore store (opening (W.state site.old) held.old log.old)
         → LastsThrough W.tells store (opening (W.state site.old) held.old log.old) (opening (W.state site.new) held.new log.new) }
     ensures sound { W.tells → IfErr result IsPassing }
-    ensures log_alone { W.tells → EachMoment (OnFile the_log (W.state site.old).now (λ file. ⊤)) (W.state site.old) (W.state site.new) }
+    ensures touches { (store : Store) → IsDoneBy (done_of done.now) store → HasStore store (opening (W.state site.old) held.old log.old)
+        → W.tells → TouchesLog (length (tidying_tables store tables) + 1) (W.state site.old) (W.state site.new) }
     ensures full { (store : Store) → IsDoneBy (done_of done.now) store → HasStore store (opening (W.state site.old) held.old log.old)
         → IfErr result (IsFullWithin log.old.frames (log.old.frames + length (tidying_tables store tables))) }
     ensures own { IfErr result IsFileFault }
@@ -103,7 +104,8 @@ fn tidy_table<W: Site>(
     ensures lasts { (store : Store) → IsDoneBy (done_of done.now) store → HasStore store (opening (W.state site.old) held.old log.old)
         → LastsThrough W.tells store (opening (W.state site.old) held.old log.old) (opening (W.state site.new) held.new log.new) }
     ensures sound { W.tells → IfErr result IsPassing }
-    ensures log_alone { W.tells → EachMoment (OnFile the_log (W.state site.old).now (λ file. ⊤)) (W.state site.old) (W.state site.new) }
+    ensures touches { (store : Store) → IsDoneBy (done_of done.now) store → HasStore store (opening (W.state site.old) held.old log.old)
+        → W.tells → TouchesLog (length (tidying_table store table) + 1) (W.state site.old) (W.state site.new) }
     ensures full { (store : Store) → IsDoneBy (done_of done.now) store → HasStore store (opening (W.state site.old) held.old log.old)
         → IfErr result (IsFullWithin log.old.frames (log.old.frames + length (tidying_table store table))) }
     ensures own { IfErr result IsFileFault }
@@ -133,7 +135,8 @@ fn tidy_row<W: Site>(
     ensures lasts { (store : Store) → HasRow (done_of done.now) table row store → HasStore store (opening (W.state site.old) held.old log.old)
         → LastsThrough W.tells store (opening (W.state site.old) held.old log.old) (opening (W.state site.new) held.new log.new) }
     ensures sound { W.tells → IfErr result IsPassing }
-    ensures log_alone { W.tells → EachMoment (OnFile the_log (W.state site.old).now (λ file. ⊤)) (W.state site.old) (W.state site.new) }
+    ensures touches { (store : Store) → HasRow (done_of done.now) table row store → HasStore store (opening (W.state site.old) held.old log.old)
+        → W.tells → TouchesLog (length (tidying_row store table row) + 1) (W.state site.old) (W.state site.new) }
     ensures full { (store : Store) → HasRow (done_of done.now) table row store → HasStore store (opening (W.state site.old) held.old log.old)
         → IfErr result (IsFullWithin log.old.frames (log.old.frames + length (tidying_row store table row))) }
     ensures own { IfErr result IsFileFault }
@@ -162,7 +165,7 @@ fn unlink<W: Site>(
     ensures lasts { (store : Store) (place : ℕ) → MayGo store table row place version.now → HasStore store (opening (W.state site.old) held.old log.old)
         → LastsThrough W.tells store (opening (W.state site.old) held.old log.old) (opening (W.state site.new) held.new log.new) }
     ensures sound { W.tells → IfErr result IsPassing }
-    ensures log_alone { W.tells → EachMoment (OnFile the_log (W.state site.old).now (λ file. ⊤)) (W.state site.old) (W.state site.new) }
+    ensures touches { W.tells → TouchesLog 1 (W.state site.old) (W.state site.new) }
     ensures full { IfErr result (IsFullWithin log.old.frames (log.old.frames + 1)) }
     ensures own { IfErr result IsFileFault }
     ensures cause { IfErr result (HasTidyCause (W.counts site.old) (W.counts site.new)) }

@@ -3,7 +3,7 @@ use Rattle.px_tidying.specs.Opening.{HasStore, opening}
 use Rattle.std.proofs.Common.{refl}
 use Rattle.px_appending.specs.Ends.{end_step}
 use Rattle.px_appending.proofs.Ends.{end_held, end_stored}
-use Rattle.px_appending.proofs.Going.{goes_on, keeps_others, lasts_on, on_err, store_stays}
+use Rattle.px_appending.proofs.Going.{goes_on, lasts_on, on_err, store_stays}
 use Rattle.px_appending.proofs.appending.append_end.Goals as goal
 
 pub append-requires : goal.append-requires
@@ -20,11 +20,6 @@ returns-in_err-append-clause-moments g c = λ held.
     lasts_on g.W.Site.tells (end_step c.args.xn c.args.commit) c.change_of_end-end.result
     (opening (g.W.Site.state c.args.site.now) held c.args.log.now) (opening (g.W.Site.state c.append.new.site) held c.append.new.self)
     (λ store has. c.change_of_end-end.ensures.is held.short store) c.append.ensures.moments
-
-pub returns-in_err-append-clause-others : goal.returns-in_err-append-clause-others
-returns-in_err-append-clause-others g c = λ held.
-    keeps_others g.W.Site.tells c.change_of_end-end.result
-    (opening (g.W.Site.state c.args.site.now) held c.args.log.now) (opening (g.W.Site.state c.append.new.site) held c.append.new.self) c.append.ensures.moments
 
 pub returns-clause-appended : goal.returns-clause-appended
 returns-clause-appended g c = λ held.
@@ -46,8 +41,3 @@ returns-clause-moments g c = λ held.
     lasts_on g.W.Site.tells (end_step c.args.xn c.args.commit) c.change_of_end-end.result
     (opening (g.W.Site.state c.args.site.now) held c.args.log.now) (opening (g.W.Site.state c.append.new.site) held c.append.new.self)
     (λ store has. c.change_of_end-end.ensures.is held.short store) c.append.ensures.moments
-
-pub returns-clause-others : goal.returns-clause-others
-returns-clause-others g c = λ held.
-    keeps_others g.W.Site.tells c.change_of_end-end.result
-    (opening (g.W.Site.state c.args.site.now) held c.args.log.now) (opening (g.W.Site.state c.append.new.site) held c.append.new.self) c.append.ensures.moments

@@ -3,7 +3,7 @@ use Rattle.px_tidying.proofs.Readying.{had_room}
 use Rattle.px_tidying.specs.Opening.{HasStore, opening}
 use Rattle.std.proofs.Common.{refl}
 use Rattle.px_appending.specs.Unlinks.{GoesFrom, sweeping}
-use Rattle.px_appending.proofs.Going.{adds_on, keeps_others, lasts_adding, on_err, store_stays}
+use Rattle.px_appending.proofs.Going.{adds_on, lasts_adding, on_err, store_stays}
 use Rattle.px_appending.proofs.Unlinks.{goes_alike, is_sweep, sweep_held, sweep_of, unlinked_laid}
 use Rattle.px_appending.proofs.appending.append_unlinked.Goals as goal
 
@@ -26,12 +26,6 @@ returns-in_err-append-clause-moments g c = λ store from goes.
     lasts_adding g.W.Site.tells (unlink_from c.args.prepared from) (sweeping c.args.prepared from c.args.swept) (sweep_of c.args.swept cells) first last
     (is_sweep first store c.args.prepared from c.args.swept cells c.requires.ready.ready goes c.in_ok-cells_unlinked.ensures)
     c.append.ensures.moments
-
-pub returns-in_err-append-clause-others : goal.returns-in_err-append-clause-others
-returns-in_err-append-clause-others g c =
-    let first = opening (g.W.Site.state c.args.site.now) c.args.held.now c.args.log.now in
-    let last = opening (g.W.Site.state c.append.new.site) c.args.held.now c.append.new.self in
-    keeps_others g.W.Site.tells (sweep_of c.args.swept c.in_ok-cells_unlinked.field-0) first last c.append.ensures.moments
 
 pub returns-clause-appended : goal.returns-clause-appended
 returns-clause-appended g c = λ store from goes.
@@ -65,9 +59,3 @@ returns-clause-moments g c = λ store from goes.
     lasts_adding g.W.Site.tells (unlink_from c.args.prepared from) (sweeping c.args.prepared from c.args.swept) (sweep_of c.args.swept cells) first last
     (is_sweep first store c.args.prepared from c.args.swept cells c.requires.ready.ready goes c.in_ok-cells_unlinked.ensures)
     c.append.ensures.moments
-
-pub returns-clause-others : goal.returns-clause-others
-returns-clause-others g c =
-    let first = opening (g.W.Site.state c.args.site.now) c.args.held.now c.args.log.now in
-    let last = opening (g.W.Site.state c.append.new.site) c.lay_unlinked.new.self c.append.new.self in
-    keeps_others g.W.Site.tells (sweep_of c.args.swept c.in_ok-cells_unlinked.field-0) first last c.append.ensures.moments

@@ -2,7 +2,7 @@ use Rattle.std.proofs.Common.{refl}
 use Rattle.px_held.specs.Linking.{step_of}
 use Rattle.px_tidying.proofs.Readying.{had_room}
 use Rattle.px_tidying.specs.Opening.{HasStore, opening}
-use Rattle.px_appending.proofs.Going.{goes_on, keeps_others, lasts_on, on_err, store_stays}
+use Rattle.px_appending.proofs.Going.{goes_on, lasts_on, on_err, store_stays}
 use Rattle.px_appending.proofs.Versions.{is_of_step, put_of, version_held, version_laid}
 use Rattle.px_appending.proofs.appending.append_version.Goals as goal
 
@@ -24,12 +24,6 @@ returns-in_err-append-clause-moments g c =
     let cells = c.in_ok-cells_of.field-0 in
     lasts_on g.W.Site.tells (step_of c.args.prepared) (put_of c.args.prepared cells) first last (is_of_step first c.args.prepared cells c.in_ok-cells_of.ensures)
     c.append.ensures.moments
-
-pub returns-in_err-append-clause-others : goal.returns-in_err-append-clause-others
-returns-in_err-append-clause-others g c =
-    let first = opening (g.W.Site.state c.args.site.now) c.args.held.now c.args.log.now in
-    let last = opening (g.W.Site.state c.append.new.site) c.args.held.now c.append.new.self in
-    keeps_others g.W.Site.tells (put_of c.args.prepared c.in_ok-cells_of.field-0) first last c.append.ensures.moments
 
 pub returns-clause-appended : goal.returns-clause-appended
 returns-clause-appended g c =
@@ -57,9 +51,3 @@ returns-clause-moments g c =
     let cells = c.in_ok-cells_of.field-0 in
     lasts_on g.W.Site.tells (step_of c.args.prepared) (put_of c.args.prepared cells) first last (is_of_step first c.args.prepared cells c.in_ok-cells_of.ensures)
     c.append.ensures.moments
-
-pub returns-clause-others : goal.returns-clause-others
-returns-clause-others g c =
-    let first = opening (g.W.Site.state c.args.site.now) c.args.held.now c.args.log.now in
-    let last = opening (g.W.Site.state c.append.new.site) c.lay.new.self c.append.new.self in
-    keeps_others g.W.Site.tells (put_of c.args.prepared c.in_ok-cells_of.field-0) first last c.append.ensures.moments

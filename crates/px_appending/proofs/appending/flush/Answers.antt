@@ -1,5 +1,5 @@
 use Rattle.px_tidying.specs.Opening.{opening}
-use Rattle.px_appending.proofs.Flushing.{flushed_if, lasts_there, others_there, store_if}
+use Rattle.px_appending.proofs.Flushing.{flushed_if, lasts_there, store_if}
 use Rattle.px_appending.proofs.appending.flush.Goals as goal
 
 pub returns-clause-flushed : goal.returns-clause-flushed
@@ -15,9 +15,4 @@ returns-clause-store g c = λ held store.
 pub returns-clause-moments : goal.returns-clause-moments
 returns-clause-moments g c = λ held.
     lasts_there g.W.Site.tells (opening (g.W.Site.state c.args.site.now) held c.args.log.now) (opening (g.W.Site.state c.flush.new.site) held c.flush.new.self)
-    c.flush.ensures.moments
-
-pub returns-clause-others : goal.returns-clause-others
-returns-clause-others g c = λ held.
-    others_there g.W.Site.tells (opening (g.W.Site.state c.args.site.now) held c.args.log.now) (opening (g.W.Site.state c.flush.new.site) held c.flush.new.self)
     c.flush.ensures.moments

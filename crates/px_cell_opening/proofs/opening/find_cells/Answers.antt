@@ -8,7 +8,7 @@ use Rattle.px_opened.specs.Damage.{IsErrorIn}
 use Rattle.px_opened.specs.Opened.{changes_over}
 use Rattle.px_site.specs.State.{State}
 use Rattle.px_tidying.proofs.Next.{if_err}
-use Rattle.px_tidying.proofs.Quiet.{still_alone}
+use Rattle.px_tidying.proofs.Quiet.{still_then}
 use Rattle.px_xlog.specs.Contents.{the_log}
 use Rattle.px_cell_opening.proofs.Cutting.{cut_behind}
 use Rattle.px_cell_opening.proofs.Numbers.{all_stored}
@@ -91,15 +91,11 @@ returns-clause-moments g c = λ t.
     cut_behind (g.W.Site.state c.args.site.now) (g.W.Site.state c.next_number.new.site) (g.W.Site.state c.open.new.site) (c.next_number.ensures.same t ∙ c.scan_log.ensures.same t)
     (c.open.ensures.moments t)
 
-pub returns-in_err-log-clause-log_alone : goal.returns-in_err-log-clause-log_alone
-returns-in_err-log-clause-log_alone g c = λ t.
-    still_alone (g.W.Site.state c.args.site.now) (g.W.Site.state c.next_number.new.site) (g.W.Site.state c.open.new.site) (c.next_number.ensures.same t ∙ c.scan_log.ensures.same t)
-    (c.open.ensures.log_alone t)
+pub returns-in_err-log-clause-touches : goal.returns-in_err-log-clause-touches
+returns-in_err-log-clause-touches g c = λ t. still_then (c.next_number.ensures.same t ∙ c.scan_log.ensures.same t) (c.open.ensures.touches t)
 
-pub returns-clause-log_alone : goal.returns-clause-log_alone
-returns-clause-log_alone g c = λ t.
-    still_alone (g.W.Site.state c.args.site.now) (g.W.Site.state c.next_number.new.site) (g.W.Site.state c.open.new.site) (c.next_number.ensures.same t ∙ c.scan_log.ensures.same t)
-    (c.open.ensures.log_alone t)
+pub returns-clause-touches : goal.returns-clause-touches
+returns-clause-touches g c = λ t. still_then (c.next_number.ensures.same t ∙ c.scan_log.ensures.same t) (c.open.ensures.touches t)
 
 -- ---- what was found
 

@@ -1,9 +1,8 @@
 use Rattle.std.proofs.Common.{◌≤◌}
 use Rattle.px_site.proofs.Moments.{weaker_moments}
 use Rattle.px_tidying.proofs.Next.{if_err, ok_weaker}
-use Rattle.px_tidying.proofs.Quiet.{alone_then}
 use Rattle.px_xlog.specs.Contents.{the_log}
-use Rattle.px_cell_opening.proofs.Beginning.{all_stand, opens_as, within}
+use Rattle.px_cell_opening.proofs.Beginning.{all_stand, none_unlinked, opened_touches, opens_as, within}
 use Rattle.px_cell_opening.proofs.Refusals.{passing_leaves}
 use Rattle.px_cell_opening.proofs.Standing.{may_beside}
 use Rattle.px_cell_opening.specs.Errors.{IsPassing}
@@ -64,6 +63,14 @@ returns-clause-refused g c = λ t. c.tidy_found.ensures.refused t ((g.W.Site.sta
 pub returns-clause-kept : goal.returns-clause-kept
 returns-clause-kept g c = λ t. passing_leaves (g.W.Site.state c.args.site.now) (g.W.Site.state c.tidy_found.new.site) c.tidy_found.result (c.tidy_found.ensures.sound t)
 
-pub returns-clause-log_alone : goal.returns-clause-log_alone
-returns-clause-log_alone g c = λ t.
-    alone_then (g.W.Site.state c.args.site.now) (g.W.Site.state c.find_cells.new.site) (g.W.Site.state c.tidy_found.new.site) (c.find_cells.ensures.log_alone t) (c.tidy_found.ensures.log_alone t)
+pub returns-in_err-found-clause-touches : goal.returns-in_err-found-clause-touches
+returns-in_err-found-clause-touches g c = λ t.
+    let before = g.W.Site.state c.args.site.now in
+    none_unlinked c.args.restart.now (before.content the_log) before (g.W.Site.state c.find_cells.new.site) (c.find_cells.ensures.touches t)
+
+pub returns-clause-touches : goal.returns-clause-touches
+returns-clause-touches g c = λ t.
+    let before = g.W.Site.state c.args.site.now in
+    let found = c.in_ok-found.ensures in
+    opened_touches c.args.restart.now (before.content the_log) c.in_ok-found.found found.found before (g.W.Site.state c.find_cells.new.site) (g.W.Site.state c.tidy_found.new.site)
+    (found.read t) (c.find_cells.ensures.touches t) (c.tidy_found.ensures.touches found.found t)

@@ -70,11 +70,14 @@ returns-clause-opened g c = λ t commits rows rests.
     let found = c.args.found in
     let s = g.W.Site.state c.args.site.now in
     let can = c.requires.bounds in
+    let store = store_of restart found.changes found.next rests.has.holds.found rests.has.holds.layouts in
     let read = reading_of restart found rests.has rows in
     let life = life_of read s.content in
     works_from restart commits rows found s can rests (record (marks_of read) { durable = end_of (tidied restart life) }) c.commits_of.result c.redone_of.result
     (g.W.Site.state c.tidy.new.site) c.tidy.new.held c.tidy.new.log c.what_was_tidied_goes_on.ensures c.what_was_opened_can_be_found.ensures
-    (still_empty s (g.W.Site.state c.tidy.new.site) (c.tidy.ensures.log_alone t) rests.tables)
+    (still_empty s (g.W.Site.state c.tidy.new.site) (c.tidy.ensures.touches store
+    (is_done restart found rests.has can c.as_slice-changes.result.now (done_of c.in_ok-done.done) c.as_slice-changes.ensures c.in_ok-done.ensures)
+    (c.tables_that_open_may_be_tidied.ensures.store restart found s can rests.has) t).alone rests.tables)
     (c.commits_of.ensures ∙ ap (λ l. commits_by restart l) c.as_slice-changes.ensures) refl
     (c.in_ok-tidy.ensures.tidied t no_parts commits (machine_of restart commits rows (found.next - 1)) life restart (marks_of read)
     (its_done restart commits rows found s can rests (done_of c.in_ok-done.done) (c.in_ok-done.ensures ∙ ap (λ l. done_by restart l) c.as_slice-changes.ensures))
@@ -92,3 +95,21 @@ returns-clause-tidied g c =
     is_tidied restart found has c.as_slice-changes.result.now c.commits_of.result c.redone_of.result c.in_ok-tidy.field-0 (g.W.Site.state c.tidy.new.site) c.tidy.new.held c.tidy.new.log can
     c.as_slice-changes.ensures c.commits_of.ensures c.redone_of.ensures (c.in_ok-tidy.ensures.after store done its) c.in_ok-tidy.ensures.frames
     (c.in_ok-tidy.ensures.count store done its)
+
+pub returns-in_err-tidy-clause-touches : goal.returns-in_err-tidy-clause-touches
+returns-in_err-tidy-clause-touches g c = λ has t.
+    let restart = c.args.restart.now in
+    let found = c.args.found in
+    let can = c.requires.bounds in
+    c.tidy.ensures.touches (store_of restart found.changes found.next has.holds.found has.holds.layouts)
+    (is_done restart found has can c.as_slice-changes.result.now (done_of c.in_ok-done.done) c.as_slice-changes.ensures c.in_ok-done.ensures)
+    (c.tables_that_open_may_be_tidied.ensures.store restart found (g.W.Site.state c.args.site.now) can has) t
+
+pub returns-clause-touches : goal.returns-clause-touches
+returns-clause-touches g c = λ has t.
+    let restart = c.args.restart.now in
+    let found = c.args.found in
+    let can = c.requires.bounds in
+    c.tidy.ensures.touches (store_of restart found.changes found.next has.holds.found has.holds.layouts)
+    (is_done restart found has can c.as_slice-changes.result.now (done_of c.in_ok-done.done) c.as_slice-changes.ensures c.in_ok-done.ensures)
+    (c.tables_that_open_may_be_tidied.ensures.store restart found (g.W.Site.state c.args.site.now) can has) t

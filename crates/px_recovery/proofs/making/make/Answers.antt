@@ -1,4 +1,5 @@
-use Rattle.std.proofs.Common.{ap, ◌∙◌}
+use Rattle.std.proofs.Common.{ap, ◌∙◌, arith}
+use Rattle.px_log.proofs.Touching.{changes_fewer, changes_then, none_changes}
 use Rattle.px_site.specs.State.{State}
 use Rattle.px_recovery.proofs.Errors.{on_err}
 use Rattle.px_recovery.proofs.NewMoments.{first_bounds, make_again, make_moments, make_settled}
@@ -40,3 +41,9 @@ returns-in_err-write_restart-clause-spared g c t used = absurd (used ((c.in_ok-i
 
 pub returns-clause-spared : goal.returns-clause-spared
 returns-clause-spared g c t used = absurd (used ((c.in_ok-is_free.ensures.free t).0 c.if-not-branch.false))
+
+pub returns-in_err-write_restart-clause-few : goal.returns-in_err-write_restart-clause-few
+returns-in_err-write_restart-clause-few g c t = changes_fewer (omega arith) (changes_then (none_changes (c.in_ok-is_free.ensures.same t)) (c.write_restart.ensures.few t))
+
+pub returns-clause-few : goal.returns-clause-few
+returns-clause-few g c t = changes_fewer (omega arith) (changes_then (none_changes (c.in_ok-is_free.ensures.same t)) (c.write_restart.ensures.few t))

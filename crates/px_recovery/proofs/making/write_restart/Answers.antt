@@ -1,4 +1,5 @@
-use Rattle.std.proofs.Common.{ap, ◌∙◌}
+use Rattle.std.proofs.Common.{ap, ◌∙◌, arith}
+use Rattle.px_log.proofs.Touching.{changes_fewer, changes_then, one_change, one_sync}
 use Rattle.px_standing.specs.Files.{Files}
 use Rattle.px_recovery.proofs.Contents.{change_others, sync_content}
 use Rattle.px_recovery.proofs.NewMoments.{writing_moments, syncing_moments}
@@ -15,3 +16,9 @@ returns-in_err-write_at-clause-others g c t = change_others (c.write_at.ensures.
 
 pub returns-clause-others : goal.returns-clause-others
 returns-clause-others g c t name apart = ap (λ (files : Files). files name) (sync_content (c.sync.ensures.moves t)) ∙ change_others (c.write_at.ensures.moves t) name apart
+
+pub returns-in_err-write_at-clause-few : goal.returns-in_err-write_at-clause-few
+returns-in_err-write_at-clause-few g c t = changes_fewer (omega arith) (one_change (c.write_at.ensures.moves t))
+
+pub returns-clause-few : goal.returns-clause-few
+returns-clause-few g c t = changes_then (one_change (c.write_at.ensures.moves t)) (one_sync (c.sync.ensures.moves t))

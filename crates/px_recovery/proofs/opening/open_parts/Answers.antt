@@ -1,6 +1,8 @@
 use Rattle.std.proofs.Common.{sym, subst, ◌∙◌}
 use Rattle.px_site.proofs.Causes.{then_none_fell}
+use Rattle.px_restart.specs.Restart.{IsPicked}
 use Rattle.px_site.specs.State.{State}
+use Rattle.px_standing.specs.Files.{first_restart, second_restart}
 use Rattle.px_tidying.specs.Opening.{opening}
 use Rattle.px_cell_standing.specs.Images.{KeepsStanding}
 use Rattle.px_cell_standing.specs.Settled.{Settled}
@@ -10,6 +12,7 @@ use Rattle.px_recovery.proofs.Quiet.{quiet_from, standing_from, two_quiet}
 use Rattle.px_recovery.proofs.Refusals.{cells_fault, cells_kept, cells_refused, later_fault, no_absence, nothing_kept, nothing_refused, passed}
 use Rattle.px_recovery.specs.Errors.{CountsFault, HasRefusal, KeepsContent, open_of_cells}
 use Rattle.px_recovery.specs.Opening.{TellsNothing}
+use Rattle.px_recovery.proofs.Touched.{opened_touched, restarts_touched, touched_from, touched_still}
 use Rattle.px_recovery.proofs.opening.open_parts.Goals as goal
 
 -- ---- the restart files weren't synced
@@ -43,7 +46,7 @@ returns-in_err-cells-clause-moments g c = λ t commits rows settled.
 
 pub returns-in_err-cells-clause-quiet : goal.returns-in_err-cells-clause-quiet
 returns-in_err-cells-clause-quiet g c = λ t.
-    two_quiet (c.read_restart.ensures.same t) (c.sync_restarts.ensures.quiet t) (c.open_cells.ensures.log_alone t)
+    two_quiet (c.read_restart.ensures.same t) (c.sync_restarts.ensures.quiet t) (c.open_cells.ensures.touches t).touches.alone
 
 pub returns-in_err-cells-clause-absent : goal.returns-in_err-cells-clause-absent
 returns-in_err-cells-clause-absent g c = λ t none.
@@ -106,7 +109,7 @@ pub returns-in_err-parts-clause-quiet : goal.returns-in_err-parts-clause-quiet
 returns-in_err-parts-clause-quiet g c = λ t.
     then_reads (TellsNothing (g.W.Site.state c.args.site.now).now) (g.W.Site.state c.args.site.now) (g.W.Site.state c.open_cells.new.site)
     (g.W.Site.state c.parts_of.new.site) (c.parts_of.ensures.same t)
-    (two_quiet (c.read_restart.ensures.same t) (c.sync_restarts.ensures.quiet t) (c.open_cells.ensures.log_alone t))
+    (two_quiet (c.read_restart.ensures.same t) (c.sync_restarts.ensures.quiet t) (c.open_cells.ensures.touches t).touches.alone)
 
 pub returns-in_err-parts-clause-absent : goal.returns-in_err-parts-clause-absent
 returns-in_err-parts-clause-absent g c = λ t none.
@@ -152,7 +155,7 @@ pub returns-clause-quiet : goal.returns-clause-quiet
 returns-clause-quiet g c = λ t.
     then_reads (TellsNothing (g.W.Site.state c.args.site.now).now) (g.W.Site.state c.args.site.now) (g.W.Site.state c.open_cells.new.site)
     (g.W.Site.state c.parts_of.new.site) (c.parts_of.ensures.same t)
-    (two_quiet (c.read_restart.ensures.same t) (c.sync_restarts.ensures.quiet t) (c.open_cells.ensures.log_alone t))
+    (two_quiet (c.read_restart.ensures.same t) (c.sync_restarts.ensures.quiet t) (c.open_cells.ensures.touches t).touches.alone)
 
 pub returns-clause-opened : goal.returns-clause-opened
 returns-clause-opened g c = λ t.
@@ -208,3 +211,32 @@ returns-clause-stored g c = λ t found on.
       active_is = parts.active;
       fresh_is = parts.fresh;
     })
+
+-- ---- what is touched
+
+pub returns-in_err-sync_restarts-clause-touches : goal.returns-in_err-sync_restarts-clause-touches
+returns-in_err-sync_restarts-clause-touches g c = λ t.
+    touched_from (c.read_restart.ensures.same t) (restarts_touched (c.sync_restarts.ensures.own_files t) (c.sync_restarts.ensures.few t) (c.sync_restarts.ensures.content t))
+
+pub returns-in_err-cells-clause-touches : goal.returns-in_err-cells-clause-touches
+returns-in_err-cells-clause-touches g c = λ t.
+    let same = c.read_restart.ensures.same t in
+    let picked = subst (λ (s : State). IsPicked (first_restart s.content) (second_restart s.content) c.in-Some.restart) (sym same) (rw c.in-Some.is at (c.in_ok-restart.ensures.found t)) in
+    touched_from same
+    (opened_touched c.in-Some.restart picked (c.sync_restarts.ensures.own_files t) (c.sync_restarts.ensures.few t) (c.sync_restarts.ensures.content t) (c.open_cells.ensures.touches t))
+
+pub returns-in_err-parts-clause-touches : goal.returns-in_err-parts-clause-touches
+returns-in_err-parts-clause-touches g c = λ t.
+    let same = c.read_restart.ensures.same t in
+    let picked = subst (λ (s : State). IsPicked (first_restart s.content) (second_restart s.content) c.in-Some.restart) (sym same) (rw c.in-Some.is at (c.in_ok-restart.ensures.found t)) in
+    touched_still (touched_from same
+    (opened_touched c.in-Some.restart picked (c.sync_restarts.ensures.own_files t) (c.sync_restarts.ensures.few t) (c.sync_restarts.ensures.content t) (c.open_cells.ensures.touches t)))
+    (c.parts_of.ensures.same t)
+
+pub returns-clause-touches : goal.returns-clause-touches
+returns-clause-touches g c = λ t.
+    let same = c.read_restart.ensures.same t in
+    let picked = subst (λ (s : State). IsPicked (first_restart s.content) (second_restart s.content) c.in-Some.restart) (sym same) (rw c.in-Some.is at (c.in_ok-restart.ensures.found t)) in
+    touched_still (touched_from same
+    (opened_touched c.in-Some.restart picked (c.sync_restarts.ensures.own_files t) (c.sync_restarts.ensures.few t) (c.sync_restarts.ensures.content t) (c.open_cells.ensures.touches t)))
+    (c.parts_of.ensures.same t)

@@ -1,6 +1,7 @@
 use Rattle.std.proofs.Common.{ap, ◌∙◌}
 use Rattle.px_cell_standing.specs.Found.{machine_of}
 use Rattle.px_core.specs.Core.{frames_of}
+use Rattle.px_recovery.proofs.Again.{settles_later}
 use Rattle.px_recovery.proofs.Quiet.{told_stays}
 use Rattle.px_recovery.proofs.Refusals.{no_room_found}
 use Rattle.px_recovery.proofs.opening.open_store.Goals as goal
@@ -28,3 +29,17 @@ returns-in-Ok-clause-stored g c t found on =
       frames = ap (λ core. frames_of core) c.over.ensures.core ∙ begins.frames;
       works = c.over.ensures.works (machine_of found) begins.life begins.restart begins.marks begins.may;
     }
+
+pub returns-in-Ok-clause-touches : goal.returns-in-Ok-clause-touches
+returns-in-Ok-clause-touches g c t = rw c.over.ensures.core (c.open_parts.ensures.touches t)
+
+pub returns-in-Ok-clause-again : goal.returns-in-Ok-clause-again
+returns-in-Ok-clause-again g c t commits rows settled =
+    let law = c.what_own_files_leave_is_settled.ensures in
+    rw c.over.ensures.core
+    (settles_later commits rows law.one_file law.crashed settled (c.open_parts.ensures.moments t commits rows settled) (c.open_parts.ensures.touches t).own)
+
+pub returns-in-Err-clause-again : goal.returns-in-Err-clause-again
+returns-in-Err-clause-again g c t commits rows settled =
+    let law = c.what_own_files_leave_is_settled.ensures in
+    settles_later commits rows law.one_file law.crashed settled (c.open_parts.ensures.moments t commits rows settled) (c.open_parts.ensures.touches t).own

@@ -1,6 +1,8 @@
-use Rattle.std.proofs.Common.{◌∙◌}
+use Rattle.std.proofs.Common.{◌∙◌, arith, refl}
+use Rattle.px_log.proofs.Touching.{changes_fewer, changes_then, one_sync}
 use Rattle.px_recovery.proofs.Contents.{sync_content}
 use Rattle.px_recovery.proofs.Syncing.{both_alone, both_quiet, both_rest, both_settle, both_stand, syncing_quiet}
+use Rattle.px_recovery.proofs.Touched.{both_synced, first_synced, none_touched}
 use Rattle.px_recovery.proofs.restarts.sync_restarts.Goals as goal
 
 pub returns-in_err-sync-clause-content : goal.returns-in_err-sync-clause-content
@@ -29,3 +31,15 @@ returns-clause-standing g c t commits rows settled = both_stand (c.in_ok-sync.en
 
 pub returns-clause-quiet : goal.returns-clause-quiet
 returns-clause-quiet g c t = both_quiet (c.in_ok-sync.ensures.moves t) (c.sync-2.ensures.moves t)
+
+pub returns-in_err-sync-clause-own_files : goal.returns-in_err-sync-clause-own_files
+returns-in_err-sync-clause-own_files g c t = first_synced (none_touched (g.W.Site.state c.args.site.now)) refl (c.sync.ensures.moves t)
+
+pub returns-in_err-sync-clause-few : goal.returns-in_err-sync-clause-few
+returns-in_err-sync-clause-few g c t = changes_fewer (omega arith) (one_sync (c.sync.ensures.moves t))
+
+pub returns-clause-own_files : goal.returns-clause-own_files
+returns-clause-own_files g c t = both_synced (c.sync.ensures.moves t) (sync_content (c.sync.ensures.moves t)) (c.sync-2.ensures.moves t)
+
+pub returns-clause-few : goal.returns-clause-few
+returns-clause-few g c t = changes_then (one_sync (c.sync.ensures.moves t)) (one_sync (c.sync-2.ensures.moves t))

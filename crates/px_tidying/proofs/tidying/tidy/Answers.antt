@@ -1,4 +1,4 @@
-use Rattle.std.proofs.Common.{◌≡◌, ℕ, refl, subst, ◌∙◌}
+use Rattle.std.proofs.Common.{◌≡◌, ◌+◌, ℕ, arith, length, refl, subst, ◌∙◌}
 use Rattle.px_history.specs.Steps.{after_steps}
 use Rattle.px_tidy.specs.Steps.{tidying_tables}
 use Rattle.px_working.specs.Follows.{last_store}
@@ -6,7 +6,7 @@ use Rattle.px_beginning.specs.Tidied.{tidied, with_steps}
 use Rattle.px_tidying.specs.Opening.{HasLife, opening}
 use Rattle.px_tidying.proofs.Composing.{both_last}
 use Rattle.px_tidying.proofs.Flushing.{flush_lasts, flush_life, flush_store}
-use Rattle.px_tidying.proofs.Quiet.{alone_then}
+use Rattle.px_tidying.proofs.Quiet.{touches_behind}
 use Rattle.px_tidying.proofs.tidying.tidy.Goals as goal
 
 pub returns-in_err-flush-clause-lasts : goal.returns-in_err-flush-clause-lasts
@@ -50,10 +50,18 @@ returns-clause-after g c = λ store is has.
     let made = c.in_ok-tidy_tables.ensures.made store is has in
     flush_store (after_steps store steps) now new made.after refl c.in_ok-flush.ensures.marks
 
-pub returns-in_err-flush-clause-log_alone : goal.returns-in_err-flush-clause-log_alone
-returns-in_err-flush-clause-log_alone g c = λ t.
-    alone_then (g.W.Site.state c.args.site.now) (g.W.Site.state c.tidy_tables.new.site) (g.W.Site.state c.flush.new.site) (c.tidy_tables.ensures.log_alone t) (c.flush.ensures.log_alone t)
+pub returns-in_err-flush-clause-touches : goal.returns-in_err-flush-clause-touches
+returns-in_err-flush-clause-touches g c = λ store is has t.
+    let old = opening (g.W.Site.state c.args.site.now) c.args.held.now c.args.log.now in
+    let now = opening (g.W.Site.state c.tidy_tables.new.site) c.tidy_tables.new.held c.tidy_tables.new.log in
+    let steps = tidying_tables store c.args.tables in
+    touches_behind g.W.Site.tells store steps old now (g.W.Site.state c.flush.new.site) 1 (length steps + 1) t (c.in_ok-tidy_tables.ensures.made store is has) (omega arith)
+    (c.flush.ensures.touches t)
 
-pub returns-clause-log_alone : goal.returns-clause-log_alone
-returns-clause-log_alone g c = λ t.
-    alone_then (g.W.Site.state c.args.site.now) (g.W.Site.state c.tidy_tables.new.site) (g.W.Site.state c.flush.new.site) (c.tidy_tables.ensures.log_alone t) (c.flush.ensures.log_alone t)
+pub returns-clause-touches : goal.returns-clause-touches
+returns-clause-touches g c = λ store is has t.
+    let old = opening (g.W.Site.state c.args.site.now) c.args.held.now c.args.log.now in
+    let now = opening (g.W.Site.state c.tidy_tables.new.site) c.tidy_tables.new.held c.tidy_tables.new.log in
+    let steps = tidying_tables store c.args.tables in
+    touches_behind g.W.Site.tells store steps old now (g.W.Site.state c.flush.new.site) 1 (length steps + 1) t (c.in_ok-tidy_tables.ensures.made store is has) (omega arith)
+    (c.flush.ensures.touches t)

@@ -1,8 +1,8 @@
-use Rattle.std.proofs.Common.{◌+◌, get_or, length, take, ◌∙◌}
+use Rattle.std.proofs.Common.{◌+◌, arith, get_or, length, take, ◌∙◌}
 use Rattle.px_history.specs.Steps.{after_steps}
 use Rattle.px_history.specs.Store.{versions_of}
+use Rattle.px_log.proofs.Touching.{touches_less}
 use Rattle.px_site.proofs.Causes.{then_none_fell}
-use Rattle.px_site.proofs.Moments.{same_moment}
 use Rattle.px_tidy.specs.Kept.{tidied_away}
 use Rattle.px_tidy.specs.Numbers.{done_of}
 use Rattle.px_tidy.specs.Steps.{tidying_row}
@@ -12,7 +12,7 @@ use Rattle.px_tidying.proofs.Composing.{OnlyReads, both_last, none_made, reads_l
 use Rattle.px_tidying.proofs.Full.{full_behind}
 use Rattle.px_tidying.proofs.Loops.{all_made, next_goes, one_more, one_within}
 use Rattle.px_tidying.proofs.Next.{if_err}
-use Rattle.px_tidying.proofs.Quiet.{alone_then}
+use Rattle.px_tidying.proofs.Quiet.{touches_behind}
 use Rattle.px_tidying.proofs.Readying.{held_reads}
 use Rattle.px_tidying.proofs.tidying.tidy_row.Goals as goal
 
@@ -26,7 +26,6 @@ loop-version-init g c =
     record {
       made = λ store is has. none_made tells store first second reads has;
       lasts = λ store is has. reads_last tells store first second c.versions_to_tidy.ensures.same;
-      quiet = λ t. same_moment (c.versions_to_tidy.ensures.same t);
       none_fell = c.versions_to_tidy.ensures.none_fell;
     }
 
@@ -86,7 +85,6 @@ loop-version-preserved g c =
           both_last tells store (take index (tidying_row store table row)) old now new made (c.loop-version.invariant.lasts store is has)
           (c.unlink.ensures.lasts (after_steps store (take index (tidying_row store table row))) (get_or (tidied_away store.done (versions_of store table row)) index 0)
           (next_goes done table row store old versions is has are index (record { slot = 0; newer = 0 }) within) made.after);
-      quiet = λ t. alone_then old.site now.site new.site (c.loop-version.invariant.quiet t) (c.unlink.ensures.log_alone t);
       none_fell = then_none_fell c.loop-version.invariant.none_fell c.unlink.ensures.none_fell;
     }
 
@@ -98,9 +96,27 @@ returns-clause-made g c = λ store is has.
     all_made (done_of c.args.done.now) c.args.table c.args.row store old c.deref-version-items.result.now is has are g.W.Site.tells c.loop-version.version-index now
     c.loop-version-test.false (c.loop-version.invariant.made store is has)
 
-pub returns-in_err-unlink-clause-log_alone : goal.returns-in_err-unlink-clause-log_alone
-returns-in_err-unlink-clause-log_alone g c = λ t.
-    alone_then (g.W.Site.state c.args.site.now) (g.W.Site.state c.loop-version.site) (g.W.Site.state c.unlink.new.site) (c.loop-version.invariant.quiet t) (c.unlink.ensures.log_alone t)
+pub returns-in_err-unlink-clause-touches : goal.returns-in_err-unlink-clause-touches
+returns-in_err-unlink-clause-touches g c = λ store is has t.
+    let row = c.args.row in
+    let table = c.args.table in
+    let index = c.loop-version.version-index in
+    let old = opening (g.W.Site.state c.args.site.now) c.args.held.now c.args.log.now in
+    let now = opening (g.W.Site.state c.loop-version.site) c.loop-version.held c.loop-version.log in
+    let are = c.deref-version-items.ensures.value ∙ c.in_ok-versions.ensures.versions store has.serves is.1 in
+    let steps = tidying_row store table row in
+    let within = one_within (done_of c.args.done.now) table row store old c.deref-version-items.result.now is has are index c.loop-version-test.true in
+    touches_behind g.W.Site.tells store (take index steps) old now (g.W.Site.state c.unlink.new.site) 1 (length steps + 1) t (c.loop-version.invariant.made store is has)
+    (omega (arith, within)) (c.unlink.ensures.touches t)
+
+pub returns-clause-touches : goal.returns-clause-touches
+returns-clause-touches g c = λ store is has t.
+    let old = opening (g.W.Site.state c.args.site.now) c.args.held.now c.args.log.now in
+    let now = opening (g.W.Site.state c.loop-version.site) c.loop-version.held c.loop-version.log in
+    let are = c.deref-version-items.ensures.value ∙ c.in_ok-versions.ensures.versions store has.serves is.1 in
+    let made = all_made (done_of c.args.done.now) c.args.table c.args.row store old c.deref-version-items.result.now is has are g.W.Site.tells c.loop-version.version-index now
+    c.loop-version-test.false (c.loop-version.invariant.made store is has) in
+    touches_less (omega arith) (made.touches t)
 
 pub returns-in_err-unlink-clause-full : goal.returns-in_err-unlink-clause-full
 returns-in_err-unlink-clause-full g c = λ store is has.

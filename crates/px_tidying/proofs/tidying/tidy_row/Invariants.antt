@@ -5,7 +5,6 @@ use Rattle.px_tidy.specs.Numbers.{done_of}
 use Rattle.px_tidy.specs.Steps.{tidying_row}
 use Rattle.px_tidying.specs.Going.{HasRow}
 use Rattle.px_tidying.specs.Opening.{HasStore, LastsThrough, Made, opening}
-use Rattle.px_tidying.proofs.Quiet.{LogAlone}
 use Rattle.px_tidying.proofs.tidying.tidy_row.Given as goal
 
 -- the versions before the index were unlinked
@@ -17,6 +16,5 @@ invariant-loop-version g l =
       made : (store : Store) → HasRow (done_of l.done) l.table l.row store → HasStore store old
           → Made g.W.Site.tells store (take l.version-index (tidying_row store l.table l.row)) old now;
       lasts : (store : Store) → HasRow (done_of l.done) l.table l.row store → HasStore store old → LastsThrough g.W.Site.tells store old now;
-      quiet : g.W.Site.tells → LogAlone (g.W.Site.state l.fn.site) (g.W.Site.state l.site);
       none_fell : NoneFell (g.W.Site.counts l.fn.site) (g.W.Site.counts l.site);
     }

@@ -1,4 +1,4 @@
-use Rattle.std.proofs.Common.{ℕ, ◌+◌, List, None, Option, length, subst}
+use Rattle.std.proofs.Common.{ℕ, ◌+◌, List, None, Option, arith, length, subst}
 use Rattle.std.specs.Prelude.{MatchOption}
 use Rattle.px_held.proofs.Serving.{served}
 use Rattle.px_history.specs.Steps.{Step, after_steps}
@@ -9,9 +9,9 @@ use Rattle.px_tidy.specs.Steps.{tidying_row, tidying_rows, tidying_table}
 use Rattle.px_tidying.specs.Errors.{IsFullWithin}
 use Rattle.px_tidying.specs.Opening.{Made, opening}
 use Rattle.px_tidying.proofs.Composing.{OnlyReads, both_last, both_made, made_still, reads_then}
-use Rattle.px_tidying.proofs.Full.{full_behind, up_to_used}
+use Rattle.px_tidying.proofs.Full.{full_behind, up_to_row, up_to_used}
 use Rattle.px_tidying.proofs.Next.{if_err}
-use Rattle.px_tidying.proofs.Quiet.{alone_still, alone_then}
+use Rattle.px_tidying.proofs.Quiet.{still_behind, touches_behind}
 use Rattle.px_tidying.proofs.Readying.{held_reads}
 use Rattle.px_tidying.proofs.Rows.{next_before, next_has_row, next_row_steps, none_before}
 use Rattle.px_tidying.proofs.tidying.tidy_table.Goals as goal
@@ -90,7 +90,14 @@ loop-row-preserved g c =
           let row = next_has_row old.held.short store table last (served old.site old.held store has.serves).sound (done_of c.args.done.now) c.in-Some.row is next in
           both_last tells store (tidying_rows store table last) old now new made (c.loop-row.invariant.lasts store is has)
           (reads_then tells middle now second new reads made.after (c.tidy_row.ensures.lasts middle row (reads.store middle made.after)));
-      quiet = λ t. alone_then old.site second.site new.site (alone_still old.site now.site second.site (c.loop-row.invariant.quiet t) (c.next_row.ensures.same t)) (c.tidy_row.ensures.log_alone t);
+      within = λ store is has.
+          let made = c.loop-row.invariant.made store is has in
+          let middle = after_steps store (tidying_rows store table last) in
+          let sound = (served old.site old.held store has.serves).sound in
+          let row = c.in-Some.row in
+          let next = subst (λ (o : Option ℕ). MatchOption o (HasNoRowPast (middle.tables table) last) (IsNextRow (middle.tables table) last)) c.in-Some.is
+          (c.in_ok-row.ensures.next middle made.after.serves) in
+          up_to_row store table row (next_before old.held.short store table last sound row next).used;
       none_fell = then_none_fell c.loop-row.invariant.none_fell (then_none_fell c.next_row.ensures.none_fell c.tidy_row.ensures.none_fell);
     }
 
@@ -113,20 +120,47 @@ returns-clause-made g c = λ store is has.
     subst (λ (l : List Step). Made tells store l old second) (none_before old.held.short store table last (served old.site old.held store has.serves).sound none)
     (made_still tells store (tidying_rows store table last) old now second made reads)
 
-pub returns-in_err-tidy_row-clause-log_alone : goal.returns-in_err-tidy_row-clause-log_alone
-returns-in_err-tidy_row-clause-log_alone g c = λ t.
-    let old = g.W.Site.state c.args.site.now in
-    let second = g.W.Site.state c.next_row.new.site in
-    alone_then old second (g.W.Site.state c.tidy_row.new.site)
-    (alone_still old (g.W.Site.state c.loop-row.site) second (c.loop-row.invariant.quiet t) (c.next_row.ensures.same t)) (c.tidy_row.ensures.log_alone t)
+pub returns-in_err-tidy_row-clause-touches : goal.returns-in_err-tidy_row-clause-touches
+returns-in_err-tidy_row-clause-touches g c = λ store is has t.
+    let tells = g.W.Site.tells in
+    let table = c.args.table in
+    let row = c.in-Some.row in
+    let last = c.loop-row.last in
+    let log = c.loop-row.log in
+    let old = opening (g.W.Site.state c.args.site.now) c.args.held.now c.args.log.now in
+    let now = opening (g.W.Site.state c.loop-row.site) c.loop-row.held log in
+    let second = opening (g.W.Site.state c.next_row.new.site) c.next_row.new.self log in
+    let reads : OnlyReads tells now second =
+    held_reads tells now.site second.site now.held second.held log c.next_row.ensures.keeps c.next_row.ensures.form c.next_row.ensures.same in
+    let made = c.loop-row.invariant.made store is has in
+    let middle = after_steps store (tidying_rows store table last) in
+    let sound = (served old.site old.held store has.serves).sound in
+    let next = subst (λ (o : Option ℕ). MatchOption o (HasNoRowPast (middle.tables table) last) (IsNextRow (middle.tables table) last)) c.in-Some.is
+    (c.in_ok-row.ensures.next middle made.after.serves) in
+    let steps = tidying_row middle table row in
+    let used = (next_before old.held.short store table last sound row next).used in
+    let within = up_to_used store table last row steps used (next_row_steps old.held.short store table last sound row next) in
+    touches_behind tells store (tidying_rows store table last) old second (g.W.Site.state c.tidy_row.new.site) (length steps + 1) (length (tidying_table store table) + 1) t
+    (made_still tells store (tidying_rows store table last) old now second made reads) (omega (arith, within))
+    (c.tidy_row.ensures.touches middle (next_has_row old.held.short store table last sound (done_of c.args.done.now) row is next) (reads.store middle made.after) t)
 
-pub returns-in_err-row-clause-log_alone : goal.returns-in_err-row-clause-log_alone
-returns-in_err-row-clause-log_alone g c = λ t.
-    alone_still (g.W.Site.state c.args.site.now) (g.W.Site.state c.loop-row.site) (g.W.Site.state c.next_row.new.site) (c.loop-row.invariant.quiet t) (c.next_row.ensures.same t)
+pub returns-in_err-row-clause-touches : goal.returns-in_err-row-clause-touches
+returns-in_err-row-clause-touches g c = λ store is has t.
+    let table = c.args.table in
+    let old = opening (g.W.Site.state c.args.site.now) c.args.held.now c.args.log.now in
+    let now = opening (g.W.Site.state c.loop-row.site) c.loop-row.held c.loop-row.log in
+    let within = c.loop-row.invariant.within store is has in
+    still_behind g.W.Site.tells store (tidying_rows store table c.loop-row.last) old now (g.W.Site.state c.next_row.new.site) (length (tidying_table store table) + 1) t
+    (c.loop-row.invariant.made store is has) (omega (arith, within)) (c.next_row.ensures.same t)
 
-pub returns-clause-log_alone : goal.returns-clause-log_alone
-returns-clause-log_alone g c = λ t.
-    alone_still (g.W.Site.state c.args.site.now) (g.W.Site.state c.loop-row.site) (g.W.Site.state c.next_row.new.site) (c.loop-row.invariant.quiet t) (c.next_row.ensures.same t)
+pub returns-clause-touches : goal.returns-clause-touches
+returns-clause-touches g c = λ store is has t.
+    let table = c.args.table in
+    let old = opening (g.W.Site.state c.args.site.now) c.args.held.now c.args.log.now in
+    let now = opening (g.W.Site.state c.loop-row.site) c.loop-row.held c.loop-row.log in
+    let within = c.loop-row.invariant.within store is has in
+    still_behind g.W.Site.tells store (tidying_rows store table c.loop-row.last) old now (g.W.Site.state c.next_row.new.site) (length (tidying_table store table) + 1) t
+    (c.loop-row.invariant.made store is has) (omega (arith, within)) (c.next_row.ensures.same t)
 
 pub returns-in_err-tidy_row-clause-full : goal.returns-in_err-tidy_row-clause-full
 returns-in_err-tidy_row-clause-full g c = λ store is has.

@@ -1,6 +1,7 @@
 use Rattle.std.proofs.Common.{◌≡◌, ℕ, ◌+◌, List, arith, length, subst}
 use Rattle.px_held.proofs.Serving.{served}
 use Rattle.px_history.specs.Steps.{Step, after_steps}
+use Rattle.px_log.proofs.Touching.{touches_less}
 use Rattle.px_site.proofs.Causes.{then_none_fell}
 use Rattle.px_tidy.specs.Numbers.{done_of}
 use Rattle.px_tidy.specs.Steps.{tidying_table, tidying_tables}
@@ -9,7 +10,7 @@ use Rattle.px_tidying.specs.Opening.{Made, opening}
 use Rattle.px_tidying.proofs.Composing.{both_last, both_made}
 use Rattle.px_tidying.proofs.Full.{full_behind, up_to_table}
 use Rattle.px_tidying.proofs.Next.{if_err}
-use Rattle.px_tidying.proofs.Quiet.{alone_then}
+use Rattle.px_tidying.proofs.Quiet.{touches_behind}
 use Rattle.px_tidying.proofs.Rows.{next_is_done, next_table_steps}
 use Rattle.px_tidying.proofs.tidying.tidy_tables.Goals as goal
 
@@ -56,7 +57,6 @@ loop-before-preserved g c =
           let done = next_is_done old.held.short store last (served old.site old.held store has.serves).sound (done_of c.args.done.now) is in
           both_last tells store (tidying_tables store last) old now new made (c.loop-before.invariant.lasts store is has)
           (c.tidy_table.ensures.lasts (after_steps store (tidying_tables store last)) done made.after);
-      quiet = λ t. alone_then old.site now.site new.site (c.loop-before.invariant.quiet t) (c.tidy_table.ensures.log_alone t);
       none_fell = then_none_fell c.loop-before.invariant.none_fell c.tidy_table.ensures.none_fell;
     }
 
@@ -67,9 +67,28 @@ returns-clause-made g c = λ store is has.
     let end : c.loop-before.before ≡ c.args.tables = omega (arith, c.loop-before.auto.before-end, c.loop-before-test.false) in
     subst (λ (n : ℕ). Made g.W.Site.tells store (tidying_tables store n) old now) end (c.loop-before.invariant.made store is has)
 
-pub returns-in_err-tidy_table-clause-log_alone : goal.returns-in_err-tidy_table-clause-log_alone
-returns-in_err-tidy_table-clause-log_alone g c = λ t.
-    alone_then (g.W.Site.state c.args.site.now) (g.W.Site.state c.loop-before.site) (g.W.Site.state c.tidy_table.new.site) (c.loop-before.invariant.quiet t) (c.tidy_table.ensures.log_alone t)
+pub returns-in_err-tidy_table-clause-touches : goal.returns-in_err-tidy_table-clause-touches
+returns-in_err-tidy_table-clause-touches g c = λ store is has t.
+    let tells = g.W.Site.tells in
+    let last = c.loop-before.before in
+    let old = opening (g.W.Site.state c.args.site.now) c.args.held.now c.args.log.now in
+    let now = opening (g.W.Site.state c.loop-before.site) c.loop-before.held c.loop-before.log in
+    let made = c.loop-before.invariant.made store is has in
+    let middle = after_steps store (tidying_tables store last) in
+    let sound = (served old.site old.held store has.serves).sound in
+    let steps = tidying_table middle (last + 1) in
+    let all = tidying_tables store c.args.tables in
+    let within = up_to_table store last (last + 1) c.args.tables steps (omega (arith, c.loop-before-test.true)) (next_table_steps old.held.short store last sound (last + 1) (omega arith)) in
+    touches_behind tells store (tidying_tables store last) old now (g.W.Site.state c.tidy_table.new.site) (length steps + 1) (length all + 1) t made (omega (arith, within))
+    (c.tidy_table.ensures.touches middle (next_is_done old.held.short store last sound (done_of c.args.done.now) is) made.after t)
+
+pub returns-clause-touches : goal.returns-clause-touches
+returns-clause-touches g c = λ store is has t.
+    let old = opening (g.W.Site.state c.args.site.now) c.args.held.now c.args.log.now in
+    let now = opening (g.W.Site.state c.loop-before.site) c.loop-before.held c.loop-before.log in
+    let end : c.loop-before.before ≡ c.args.tables = omega (arith, c.loop-before.auto.before-end, c.loop-before-test.false) in
+    let made = subst (λ (n : ℕ). Made g.W.Site.tells store (tidying_tables store n) old now) end (c.loop-before.invariant.made store is has) in
+    touches_less (omega arith) (made.touches t)
 
 pub returns-in_err-tidy_table-clause-full : goal.returns-in_err-tidy_table-clause-full
 returns-in_err-tidy_table-clause-full g c = λ store is has.

@@ -4,7 +4,6 @@ use Rattle.px_tidy.specs.Numbers.{done_of}
 use Rattle.px_tidy.specs.Steps.{tidying_tables}
 use Rattle.px_tidying.specs.Going.{IsDoneBy}
 use Rattle.px_tidying.specs.Opening.{HasStore, LastsThrough, Made, opening}
-use Rattle.px_tidying.proofs.Quiet.{LogAlone}
 use Rattle.px_tidying.proofs.tidying.tidy_tables.Given as goal
 
 -- the tables 1 to `before` were tidied
@@ -15,6 +14,5 @@ invariant-loop-before g l =
     record {
       made : (store : Store) → IsDoneBy (done_of l.done) store → HasStore store old → Made g.W.Site.tells store (tidying_tables store l.before) old now;
       lasts : (store : Store) → IsDoneBy (done_of l.done) store → HasStore store old → LastsThrough g.W.Site.tells store old now;
-      quiet : g.W.Site.tells → LogAlone (g.W.Site.state l.fn.site) (g.W.Site.state l.site);
       none_fell : NoneFell (g.W.Site.counts l.fn.site) (g.W.Site.counts l.site);
     }

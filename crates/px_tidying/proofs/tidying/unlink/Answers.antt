@@ -10,7 +10,7 @@ use Rattle.px_tidying.specs.Opening.{Opening, opening}
 use Rattle.px_tidying.proofs.Causes.{held_passes}
 use Rattle.px_tidying.proofs.Composing.{OnlyReads, both_made, none_made, reads_then, reads_twice}
 use Rattle.px_tidying.proofs.Made.{frame_holds, one_lasts, one_made, unlink_of}
-use Rattle.px_tidying.proofs.Quiet.{still_alone}
+use Rattle.px_tidying.proofs.Quiet.{still_then}
 use Rattle.px_tidying.proofs.Readying.{IsFor, frame_is, goes_from, had_room, held_reads, its_slot, step_is}
 use Rattle.px_tidying.proofs.tidying.unlink.Goals as goal
 
@@ -95,7 +95,7 @@ returns-clause-made g c = λ store place may has.
     (frame_is store c.args.table c.args.row place c.args.version.now first third c.in_ok-prepared.prepared c.in_ok-xn.xn c.in_ok-cells_unlinked.field-0 may has then is
     c.in_ok-xn.ensures.writer c.in_ok-cells_unlinked.ensures)
     serves c.lay_unlinked.ensures.form c.in_ok-append.ensures.marks (had_room c.args.log.now c.in_ok-append.field-0 c.in_ok-append.ensures.full)
-    c.in_ok-append.ensures.logged c.append.ensures.moments)
+    c.in_ok-append.ensures.logged c.append.ensures.moments c.append.ensures.touches)
 
 pub returns-clause-lasts : goal.returns-clause-lasts
 returns-clause-lasts g c = λ store place may has.
@@ -119,12 +119,10 @@ returns-clause-lasts g c = λ store place may has.
     c.in_ok-xn.ensures.writer c.in_ok-cells_unlinked.ensures)
     c.append.ensures.moments)
 
-pub returns-in_err-append-clause-log_alone : goal.returns-in_err-append-clause-log_alone
-returns-in_err-append-clause-log_alone g c = λ t.
-    still_alone (g.W.Site.state c.args.site.now) (g.W.Site.state c.prepare_unlink.new.site) (g.W.Site.state c.append.new.site)
-    (c.prepare_unlink.ensures.same t ∙ c.writer_of.ensures.same t) (c.append.ensures.log_alone t)
+pub returns-in_err-append-clause-touches : goal.returns-in_err-append-clause-touches
+returns-in_err-append-clause-touches g c = λ t.
+    still_then (c.prepare_unlink.ensures.same t ∙ c.writer_of.ensures.same t) (c.append.ensures.touches t)
 
-pub returns-clause-log_alone : goal.returns-clause-log_alone
-returns-clause-log_alone g c = λ t.
-    still_alone (g.W.Site.state c.args.site.now) (g.W.Site.state c.prepare_unlink.new.site) (g.W.Site.state c.append.new.site)
-    (c.prepare_unlink.ensures.same t ∙ c.writer_of.ensures.same t) (c.append.ensures.log_alone t)
+pub returns-clause-touches : goal.returns-clause-touches
+returns-clause-touches g c = λ t.
+    still_then (c.prepare_unlink.ensures.same t ∙ c.writer_of.ensures.same t) (c.append.ensures.touches t)

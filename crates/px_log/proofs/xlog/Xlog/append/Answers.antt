@@ -3,9 +3,8 @@ use Rattle.px_change.specs.Grammar.{is_change}
 use Rattle.px_log.specs.Window.{longest_frame}
 use Rattle.px_log.specs.Log.{Log, IsLogOf, with_frame}
 use Rattle.px_log.proofs.FramesOfChanges.{may_be_written}
-use Rattle.px_log.proofs.Alone.{change_alone}
 use Rattle.px_log.proofs.Appends.{may_append, short_frame, append_moments, append_logged}
-use Rattle.px_log.proofs.OtherFiles.{change_leaves_others}
+use Rattle.px_log.proofs.Touching.{change_touches}
 use Rattle.px_log.proofs.xlog.Xlog.append.Goals as goal
 
 pub fill-requires : goal.fill-requires
@@ -53,14 +52,8 @@ returns-clause-logged g c t = λ changes is.
     ap (with_frame c.args.change.now) (sym c.self.view_is) ∙ ap (λ (n : ℕ). next (i.size + n)) (sym grown) in
     subst (λ (l : Log). IsLogOf l (changes ++ c.args.change.now ∷ []) (g.W.Site.state c.write_at.new.self)) same logged
 
-pub returns-in_err-write_at-clause-others : goal.returns-in_err-write_at-clause-others
-returns-in_err-write_at-clause-others g c t = change_leaves_others c.log_file.ensures (c.write_at.ensures.moves t)
+pub returns-in_err-write_at-clause-touches : goal.returns-in_err-write_at-clause-touches
+returns-in_err-write_at-clause-touches g c t = change_touches c.log_file.ensures (c.write_at.ensures.moves t)
 
-pub returns-clause-others : goal.returns-clause-others
-returns-clause-others g c t = change_leaves_others c.log_file.ensures (c.write_at.ensures.moves t)
-
-pub returns-in_err-write_at-clause-log_alone : goal.returns-in_err-write_at-clause-log_alone
-returns-in_err-write_at-clause-log_alone g c t = change_alone c.log_file.ensures (c.write_at.ensures.moves t)
-
-pub returns-clause-log_alone : goal.returns-clause-log_alone
-returns-clause-log_alone g c t = change_alone c.log_file.ensures (c.write_at.ensures.moves t)
+pub returns-clause-touches : goal.returns-clause-touches
+returns-clause-touches g c t = change_touches c.log_file.ensures (c.write_at.ensures.moves t)
