@@ -3,7 +3,9 @@ use Rattle.std.proofs.Common.{◌≡◌, ◌≢◌, ℕ, ◌+◌, ◌≤◌, ◌
 use Rattle.std.specs.Prelude.{IsErrOf, nat_lt, unwrap_or}
 use Rattle.std.proofs.lemmas.Bool.{cases_Bool, ltb-false, ltb-true}
 use Rattle.px_active.specs.Active.{IsActiveOf}
-use Rattle.px_appending.specs.Appending.{GoesOn, KeepsOthers, LastsOn, MayGoOn}
+use Rattle.px_appending.specs.Appending.{GoesOn, LastsOn, MayGoOn}
+use Rattle.px_log.proofs.Touching.{last_moment}
+use Rattle.px_log.specs.Touching.{TouchesLog}
 use Rattle.px_calls.specs.declared.call.Call.{Call}
 use Rattle.px_calls.specs.declared.reply.Reply.{Reply}
 use Rattle.px_calls.specs.Steps.{reply_of, state_after}
@@ -27,13 +29,13 @@ use Rattle.px_model.specs.Machine.{Machine, commits}
 use Rattle.px_model.specs.Rows.{in_order}
 use Rattle.px_reached.specs.Reachable.{Marks}
 use Rattle.px_shown.specs.Parts.{no_parts}
+use Rattle.px_site.proofs.Moments.{weaker_moments}
 use Rattle.px_site.specs.Cause.{Counts, NoneFell, Rose}
 use Rattle.px_site.specs.declared.error.Fault.{Fault}
 use Rattle.px_site.specs.declared.error.Fault.TheVariants.{Write}
 use Rattle.px_site.specs.declared.error.SiteError.TheVariants.{Fault as SiteFault}
 use Rattle.px_site.specs.State.{EachMoment, State}
 use Rattle.px_standing.specs.Images.{LeavesOthers, acked}
-use Rattle.px_tidying.proofs.Composing.{last_moment}
 use Rattle.px_tidying.specs.Opening.{HasLife, HasStore}
 use Rattle.px_working.proofs.Grown.{last_more}
 use Rattle.px_working.specs.Follows.{Follows, last_store, with_step}
@@ -123,13 +125,13 @@ module _ {W : Type 0} (tells : Type 0) (state : W → State) (session : ℕ) (ca
     redo = works.found.redo;
   }
 
-pub others_on : {W : Type 0} (tells : Type 0) (state : W → State) (old new : Kept W) → KeepsOthers tells (opening_of state old) (opening_of state new)
+pub others_on : {W : Type 0} (tells : Type 0) (state : W → State) (old new : Kept W) → (tells → TouchesLog 1 (state old.site) (state new.site))
     → tells → (m : Machine) → WorksFor state old m → EachMoment (LeavesOthers (state old.site).now) (state old.site) (state new.site)
-others_on tells state old new others t m works = others t works.life.changes works.has.logged
+others_on tells state old new touches t m works = weaker_moments (λ now on. on.others) (touches t).alone
 
 pub last_others : {W : Type 0} (state : W → State) (old new : Kept W) → EachMoment (LeavesOthers (state old.site).now) (state old.site) (state new.site)
     → LeavesOthers (state old.site).now (state new.site).now
-last_others state old new others = last_moment (LeavesOthers (state old.site).now) (state old.site) (state new.site) (λ name away. refl) others
+last_others state old new others = last_moment (LeavesOthers (state old.site).now) (λ name away. refl) others
 
 -- ---- a frame that was appended
 
@@ -137,7 +139,7 @@ pub record Appends {W : Type 0} (tells : Type 0) (state : W → State) (counts :
   pub goes : GoesOn tells step (opening_of state old) (opening_of state new)
   pub store : (store : Store) → HasStore store (opening_of state old) → HasStore (after_step store step) (opening_of state new)
   pub moments : LastsOn tells step (opening_of state old) (opening_of state new)
-  pub others : KeepsOthers tells (opening_of state old) (opening_of state new)
+  pub touches : tells → TouchesLog 1 (state old.site) (state new.site)
   pub frames : new.log.frames ≡ old.log.frames + 1
   pub room : old.log.frames < most_frames
   pub none_fell : NoneFell (counts old.site) (counts new.site)
@@ -173,12 +175,12 @@ framed_does {W} tells state counts session call old new Holds step reply appends
             (subst (λ (least : ℕ). HasLife no_parts least next (with_step works.restart.short works.life step) works.restart works.marks (opening_of state new)) (sym same) has)
             is.goes is.active is.written
             (found_with tells state session call old new step t m works is.follows is.one_version is.writer
-            (last_others state old new (others_on tells state old new appends.others t m works)));
+            (last_others state old new (others_on tells state old new appends.touches t m works)));
         frames = omega (arith, appends.frames, is.one);
         room = λ full. absurd (omega (arith, full, appends.room));
       };
   moments = λ t m works holds. stands_on tells state session call old new step t m works (framed t m works holds).0.follows appends.moments;
-  others = others_on tells state old new appends.others;
+  others = others_on tells state old new appends.touches;
   refused = tt;
   full = λ t m works holds. tt;
   sound = λ t. tt;
@@ -199,7 +201,7 @@ pub record Fails {W : Type 0} (tells : Type 0) (state : W → State) (counts : W
   pub active : new.active ≡ old.active
   pub error_is : new.error ≡ kept_after error old.error
   pub untouched : tells → LeavesUntouched (state old.site) (state new.site) error
-  pub others : KeepsOthers tells (opening_of state old) (opening_of state new)
+  pub touches : tells → TouchesLog 1 (state old.site) (state new.site)
   pub cause : HasLogCause old.log (counts old.site) (counts new.site) error
   pub own : IsFaultOf Write error
   pub none_fell : NoneFell (counts old.site) (counts new.site)
@@ -276,7 +278,7 @@ module _ {W : Type 0} (tells : Type 0) (state : W → State) (counts : W → Cou
   fails_does error fails short meets adds stands = record {
     answered = λ t m works holds. tt;
     moments = stands;
-    others = others_on tells state old new fails.others;
+    others = others_on tells state old new fails.touches;
     refused = refuses error fails short meets;
     full = λ t m works holds. finds_full error fails m (adds t m works holds);
     sound = λ t. passes error;

@@ -21,7 +21,7 @@ use Rattle.px_shown.specs.Parts.{no_parts}
 use Rattle.px_site.proofs.Moments.{then_moments, weaker_moments}
 use Rattle.px_site.specs.State.{EachMoment, Moment, State}
 use Rattle.px_standing.specs.Images.{IsPlainImage, LeavesOthers}
-use Rattle.px_tidying.proofs.Composing.{last_moment}
+use Rattle.px_log.proofs.Touching.{last_moment}
 use Rattle.px_working.proofs.Moments.{crash_leaves}
 use Rattle.px_cell_standing.specs.Images.{StandsBetween}
 
@@ -68,10 +68,10 @@ each_stands least m restart old new moments = weaker_moments (λ now within. las
 pub stands_then : (least most : ℕ) (m : Machine) (a b c : State) → EachMoment (StandsBetween least most m a.now) a b
     → EachMoment (StandsBetween least most m b.now) b c → EachMoment (StandsBetween least most m a.now) a c
 stands_then least most m a b c first second =
-    let told : b.now.told ≡ a.now.told = last_moment (λ now. now.told ≡ a.now.told) a b refl (weaker_moments (λ now stands. stands.told) first) in
+    let told : b.now.told ≡ a.now.told = last_moment (λ now. now.told ≡ a.now.told) refl (weaker_moments (λ now stands. stands.told) first) in
     then_moments first (weaker_moments (λ now stands. record { each = stands.each; told = stands.told ∙ told; telling = stands.telling }) second)
 
 pub others_then : (a b c : State) → EachMoment (LeavesOthers a.now) a b → EachMoment (LeavesOthers b.now) b c → EachMoment (LeavesOthers a.now) a c
 others_then a b c first second =
-    let same : LeavesOthers a.now b.now = last_moment (LeavesOthers a.now) a b (λ name away. refl) first in
+    let same : LeavesOthers a.now b.now = last_moment (LeavesOthers a.now) (λ name away. refl) first in
     then_moments first (weaker_moments (λ now others name away. others name away ∙ same name away) second)

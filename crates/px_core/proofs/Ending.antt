@@ -3,7 +3,8 @@ use Rattle.std.proofs.Common.{◌≡◌, ◌≢◌, ℕ, ◌+◌, ◌≤◌, ◌
 use Rattle.std.specs.Prelude.{◌&&◌, cond, is_some, slice_index_or, slice_set}
 use Rattle.px_active.specs.Active.{IsActiveOf, IsWriterIn, commits_after, end_call, writer_in}
 use Rattle.px_active.specs.declared.active.Active.{Active}
-use Rattle.px_appending.specs.Appending.{IsFlushed, KeepsOthers, LastsThere}
+use Rattle.px_appending.specs.Appending.{IsFlushed, LastsThere}
+use Rattle.px_log.specs.Touching.{TouchesLog}
 use Rattle.px_calls.specs.declared.call.Call.TheVariants.{Commit, Rollback}
 use Rattle.px_calls.specs.declared.reply.Reply.{Reply}
 use Rattle.px_calls.specs.Steps.{open_of, reply_of, state_after}
@@ -26,6 +27,7 @@ use Rattle.px_model.specs.declared.write.Write.{Write}
 use Rattle.px_model.specs.Machine.{Machine, commits}
 use Rattle.px_shown.specs.Parts.{no_parts}
 use Rattle.px_site.proofs.Causes.{then_none_fell}
+use Rattle.px_site.proofs.Moments.{weaker_moments}
 use Rattle.px_site.specs.Cause.{Counts, HasCause, IsOwn, NoneFell, Rose}
 use Rattle.px_site.specs.declared.error.Fault.{Fault}
 use Rattle.px_site.specs.declared.error.Fault.TheVariants.{Sync}
@@ -212,7 +214,7 @@ commit_framed {W} tells state counts session xn number old new reply Holds ends 
 pub record Flushes {W : Type 0} (tells : Type 0) (state : W → State) (counts : W → Counts) (mid new : Kept W) : Type 0 where
   pub store : (store : Store) → HasStore store (opening_of state mid) → HasStore store (opening_of state new)
   pub moments : LastsThere tells (opening_of state mid) (opening_of state new)
-  pub others : KeepsOthers tells (opening_of state mid) (opening_of state new)
+  pub touches : tells → TouchesLog 1 (state mid.site) (state new.site)
   pub frames : new.log.frames ≡ mid.log.frames
   pub none_fell : NoneFell (counts mid.site) (counts new.site)
 
@@ -235,11 +237,8 @@ module _ {W : Type 0} (tells : Type 0) (state : W → State) (counts : W → Cou
 
   both_others : tells → (m : Machine) → WorksFor state old m → EachMoment (LeavesOthers (state old.site).now) (state old.site) (state new.site)
   both_others t m works =
-      let step = Step.commit xn number in
-      let has = life_on tells state session Commit old mid step t m works (follows m works) appends.goes in
       others_then (state old.site) (state mid.site) (state new.site)
-      (appends.others t works.life.changes works.has.logged)
-      (flushes.others t (with_step works.restart.short works.life step).changes has.logged)
+      (weaker_moments (λ now on. on.others) (appends.touches t).alone) (weaker_moments (λ now on. on.others) (flushes.touches t).alone)
 
   both_well : new.active.commits ≤ old.active.commits + 1 → IsWell state new
   both_well count = record {

@@ -1,5 +1,6 @@
 ghost use Rattle.std.specs.Prelude.{◌≡◌, IfErr, OnOk};
-ghost use Rattle.px_appending.specs.Appending.{IsFlushed, KeepsOthers, LastsThere};
+ghost use Rattle.px_appending.specs.Appending.{IsFlushed, LastsThere};
+ghost use Rattle.px_log.specs.Touching.{TouchesLog};
 ghost use Rattle.px_history.specs.Store.{Store};
 ghost use Rattle.px_site.specs.Cause.{HasCause, IsOwn, NoneFell};
 ghost use Rattle.px_tidying.specs.Opening.{HasStore};
@@ -34,7 +35,7 @@ impl<W: Site> Kept<W> {
         ensures flushed { OnOk result (IsFlushed W.tells (opening_of W.state self.old) (opening_of W.state self.new)) }
         ensures store { (store : Store) → HasStore store (opening_of W.state self.old) → HasStore store (opening_of W.state self.new) }
         ensures moments { LastsThere W.tells (opening_of W.state self.old) (opening_of W.state self.new) }
-        ensures others { KeepsOthers W.tells (opening_of W.state self.old) (opening_of W.state self.new) }
+        ensures touches { W.tells → TouchesLog 1 (W.state self.old.site) (W.state self.new.site) }
         ensures frames { frames_of self.new ≡ frames_of self.old }
         ensures rest { self.new ≡ record self.old { site = self.new.site; log = self.new.log; error = self.new.error } }
         ensures still { OnOk result (self.new.error ≡ self.old.error) }
