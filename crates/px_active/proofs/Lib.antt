@@ -1,3 +1,4 @@
 pub mod Calls
 mod Ending
+pub mod Sweeping
 mod Writing

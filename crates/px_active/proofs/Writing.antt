@@ -5,7 +5,7 @@ use Rattle.std.proofs.lemmas.Bool.{cases_lt}
 use Rattle.std.proofs.lemmas.List.{get_or-set_same, get_or_past, length-set}
 use Rattle.std.proofs.lemmas.Option.{none-some}
 use Rattle.px_active.specs.declared.active.Active.{Active}
-use Rattle.px_active.specs.Active.{IsActiveOf, IsGivenBack, Noted, last_of}
+use Rattle.px_active.specs.Active.{IsActiveOf, IsGivenBack, IsTaken, MayTake, Noted, last_of}
 use Rattle.px_active.proofs.Calls.{commits_none}
 use Rattle.px_answers.specs.Keeping.{Kept, KeepsTickets, is_hold}
 use Rattle.px_answers.proofs.KeptByTickets.{call_keeps}
@@ -22,7 +22,7 @@ use Rattle.px_machine_laws.proofs.Overlap.{same_key-is}
 use Rattle.px_model.specs.declared.machine.Open.{Open}
 use Rattle.px_model.specs.declared.write.Write.{Write}
 use Rattle.px_model.specs.Machine.{Machine}
-use Rattle.px_model.specs.Rows.{key_written, same_key}
+use Rattle.px_model.specs.Rows.{Key, key_written, same_key}
 use Rattle.px_xacts.specs.declared.transaction.Transaction.{Transaction}
 use Rattle.px_xacts.specs.declared.write.WriteAt.{WriteAt}
 use Rattle.px_xacts.specs.Transactions as transactions
@@ -49,19 +49,10 @@ last_of_more x at =
     let place : length (x.writes ++ at ∷ []) - 1 ≡ length x.writes = omega (arith, length-append x.writes (at ∷ [])) in
     ap (slice_get (x.writes ++ at ∷ [])) place ∙ slice_get-push x.writes at
 
--- the write that was added is the last one
-pub last_written : (all new : Transactions) (session : ℕ) (at : WriteAt) (P : Transaction → Type 0) → IsSomeAnd (transactions.open_of all session) P
-    → new ≡ with_write all session at → last_of (transactions.open_of new session) ≡ Some at
-last_written all new session at P room is =
-    let x = some_of (transactions.open_of all session) P room in
-    ap (λ (z : Transactions). last_of (transactions.open_of z session)) is
-    ∙ ap last_of (open_after all session at x.0 x.1)
-    ∙ last_of_more x.0 at
-
 longer : (x : Transaction) (at : WriteAt) → 0 < length (plus_write at x).writes
 longer x at = omega (arith, length-append x.writes (at ∷ []))
 
--- so there is one
+-- the transaction has a write then
 pub one_written : (all new : Transactions) (session : ℕ) (at : WriteAt) (P : Transaction → Type 0) → IsSomeAnd (transactions.open_of all session) P
     → new ≡ with_write all session at → IsSomeAnd (transactions.open_of new session) (λ t. 0 < length t.writes)
 one_written all new session at P room is =
@@ -119,7 +110,7 @@ write_leaves m old new session number call xact write at kept is is_open own wri
 
 -- ---- a write that is taken back
 
-same_active : (one other : Active) → one.xacts ≡ other.xacts → one.locks ≡ other.locks → one.tickets ≡ other.tickets → one.commits ≡ other.commits → one ≡ other
+pub same_active : (one other : Active) → one.xacts ≡ other.xacts → one.locks ≡ other.locks → one.tickets ≡ other.tickets → one.commits ≡ other.commits → one ≡ other
 same_active one other xacts locks tickets commits =
     ap (λ (x : Transactions). record { xacts = x; locks = one.locks; tickets = one.tickets; commits = one.commits }) xacts
     ∙ ap (λ (l : Holders). record { xacts = other.xacts; locks = l; tickets = one.tickets; commits = one.commits }) locks
@@ -138,6 +129,18 @@ one_key true false number was before = refl
 one_key false true number was before = sym (before refl)
 one_key false false number was before = refl
 
+-- a key that was taken and is given back is held as before
+pub given_back : (taken : Key) (number : ℕ) (free : Bool) (before held new : Holders) → MayTake taken number before → free ≡ is_none (holder_of taken before)
+    → IsTaken taken number before held → IsGivenBack taken free held new → new ≡ before
+given_back taken number free before held new may free_is is given =
+    holders_are new before (λ key.
+    given key
+    ∙ ap (λ o. cond (free && same_key key taken) None o) (is key)
+    ∙ one_key free (same_key key taken) number (holder_of key before) (λ same.
+    ap (λ k. holder_of k before) (same_key-is key taken same)
+    ∙ held_before (holder_of taken before) number may
+    ∙ ap (λ b. cond b None (Some number)) (sym free_is)))
+
 -- the key of the last write
 pub last_noted : (before old : Active) (session number : ℕ) (at : WriteAt) (free : Bool) (P : Transaction → Type 0) → Noted session number at free before old
     → IsSomeAnd (transactions.open_of old.xacts session) P → last_of (transactions.open_of old.xacts session) ≡ Some at
@@ -151,12 +154,5 @@ pub taken_back : (before old new : Active) (session number : ℕ) (at : WriteAt)
     → new.xacts ≡ before.xacts → IsGivenBack (key_at at) free old.locks new.locks → new.tickets ≡ old.tickets → new.commits ≡ old.commits
     → new ≡ before
 taken_back before old new session number at free noted xacts given tickets commits =
-    same_active new before xacts
-    (holders_are new.locks before.locks (λ key.
-    given key
-    ∙ ap (λ o. cond (free && same_key key (key_at at)) None o) (noted.holders key)
-    ∙ one_key free (same_key key (key_at at)) number (holder_of key before.locks) (λ same.
-    ap (λ k. holder_of k before.locks) (same_key-is key (key_at at) same)
-    ∙ held_before (holder_of (key_at at) before.locks) number noted.may_take
-    ∙ ap (λ b. cond b None (Some number)) (sym noted.free_is))))
+    same_active new before xacts (given_back (key_at at) number free before.locks old.locks new.locks noted.may_take noted.free_is noted.holders given)
     (tickets ∙ noted.tickets) (commits ∙ noted.commits)

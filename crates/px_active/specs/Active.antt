@@ -1,19 +1,22 @@
 -- What the sessions have, and the machine whose it is.
-use Rattle.std.specs.Prelude.{◌≡◌, ◌≢◌, ◌⊎◌, ℕ, ◌+◌, ◌==◌, ◌&&◌, ◌-◌, Bool, true, false, List, [], length, Option, Some, None, is_none, is_some, if◌then◌else◌, slice_get}
+use Rattle.std.specs.Prelude.{◌≡◌, ◌≢◌, ◌⊎◌, ℕ, ◌+◌, ◌==◌, ◌&&◌, ◌-◌, Bool, true, false, All, List, [], length, Option, Some, None, is_none, is_some, if◌then◌else◌, slice_get}
 use Rattle.std.specs.List.{list_any}
 use Rattle.px_active.specs.declared.active.Active.{Active}
+use Rattle.px_active.specs.declared.active.writing.NewWrite.{NewWrite}
 use Rattle.px_answers.specs.Keeping.{KeepsTickets}
 use Rattle.px_calls.specs.declared.call.Call.{Call}
 use Rattle.px_calls.specs.declared.call.Call.TheVariants.{Commit, Fetch, Find, Get, Rollback, Scan}
 use Rattle.px_calls.specs.declared.reply.Reply.{Reply}
 use Rattle.px_calls.specs.declared.reply.Reply.TheVariants.{Committed, EndedEmpty, RolledBack}
 use Rattle.px_calls.specs.Steps.{open_of}
+use Rattle.px_history.specs.Fitting.{IsStoredNumber}
 use Rattle.px_locks.specs.Holders.{Holders, holder_of, unless_held_by}
 use Rattle.px_locks_laws.specs.Keys.{HoldsKeys}
 use Rattle.px_model.specs.declared.machine.Open.{Open}
 use Rattle.px_model.specs.Machine.{Machine, commits as commits_of}
 use Rattle.px_model.specs.Rows.{Key, same_key}
 use Rattle.px_xacts.specs.declared.transaction.Transaction.{Transaction}
+use Rattle.px_xacts.specs.declared.transaction.Unswept.{Unswept}
 use Rattle.px_xacts.specs.declared.write.WriteAt.{WriteAt}
 use Rattle.px_xacts.specs.Transactions as transactions
 use Rattle.px_xacts.specs.Transactions.{Transactions, with_write}
@@ -26,7 +29,18 @@ pub record IsActiveOf (m : Machine) (active : Active) : Type 0 where
   pub kept : KeepsTickets active.tickets m
   pub commits : active.commits ≡ commits_of m
 
+-- the transaction of each unswept write has a stored number
+abbrev pub AreStored : Transactions → Type 0
+AreStored all = All (λ (entry : Unswept). IsStoredNumber (all.base + entry.number)) all.queue
+
 -- ---- a write
+
+abbrev pub new_key : NewWrite → Key
+new_key write = (write.table, write.key.now)
+
+-- where the version stands
+abbrev pub place_of : NewWrite → WriteAt
+place_of write = record { table = write.table; row = write.row; slot = write.slot; key = write.key.now }
 
 -- the transaction of that number may take the key
 abbrev pub MayTake : Key → (number : ℕ) → Holders → Type 0

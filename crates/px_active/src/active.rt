@@ -1,5 +1,5 @@
 ghost use Rattle.std.specs.Prelude.{◌≡◌, ◌<◌, ℕ, List, IfOk, OnErr, OnOk};
-ghost use Rattle.px_active.specs.Active.{IsActiveOf};
+ghost use Rattle.px_active.specs.Active.{AreStored, IsActiveOf};
 ghost use Rattle.px_calls.specs.declared.call.Call.{Call};
 ghost use Rattle.px_calls.specs.Steps.{reply_of, state_after};
 ghost use Rattle.px_chain_laws.specs.Kept.{IsKept};
@@ -10,6 +10,7 @@ ghost use Rattle.px_xacts.specs.Transactions as transactions;
 ghost use Rattle.px_xacts_laws.specs.Mirrors.{begun_reply};
 
 mod ending;
+mod sweeping;
 mod writing;
 
 use px_answers::Tickets;
@@ -18,6 +19,7 @@ use px_locks::Locks;
 use px_model::Session;
 use px_xacts::{Begun, Xacts};
 use std::alloc::{AllocError, Global};
+pub use writing::NewWrite;
 
 /// What the sessions have: their transactions, the keys that these hold, the rows that their tickets keep, and how many commits the
 /// store has made.
@@ -36,6 +38,7 @@ impl Active {
         requires { base < STORED_NUMBERS_END }
         ensures is { (tables short : ℕ) (opening : List Row) → IfOk result (IsActiveOf (fresh tables short opening commits base)) }
         ensures xacts { IfOk result (λ active. active.xacts ≡ transactions.fresh base) }
+        ensures stored { IfOk result (λ active. AreStored active.xacts) }
         ensures commits { IfOk result (λ active. active.commits ≡ commits) }
     {
         Ok(Active {
@@ -52,6 +55,7 @@ impl Active {
         ensures active { (m : Machine) → IsKept m → IsActiveOf m self.old → OnOk result (IsActiveOf (state_after m session Call.Begin) self.new) }
         ensures xacts { OnOk result (self.new.xacts ≡ transactions.after_begin self.old.xacts session frames) }
         ensures answer { IfOk result (λ reply. reply ≡ begun_reply (transactions.begin_answer self.old.xacts session)) }
+        ensures stored { AreStored self.old.xacts → AreStored self.new.xacts }
         ensures commits { self.new.commits ≡ self.old.commits }
         ensures err { OnErr result (self.new ≡ self.old) }
     {

@@ -1,7 +1,6 @@
-use px_active::Active;
+use px_active::{Active, NewWrite};
 use px_calls::reply_text;
-use px_model::{Bytes, MOST_WRITES, Session};
-use px_xacts::WriteAt;
+use px_model::{MOST_WRITES, Session};
 use std::alloc::Global;
 use std::process::Abort;
 use std::test::Fail;
@@ -67,7 +66,6 @@ fn answer(
 }
 
 fn write(alloc: Global, active: &mut Active, session: Session) -> Result<bool, Fail> {
-    let key = Bytes::from_slice(alloc, b"a")?;
     let transaction = active.xacts.open_of(session).ok_or("no transaction")?;
     let number = transaction.number;
     if transaction.writes.as_slice().len() >= MOST_WRITES {
@@ -76,16 +74,15 @@ fn write(alloc: Global, active: &mut Active, session: Session) -> Result<bool, F
     if active.locks.holder(1, b"a").unwrap_or(number) != number {
         return Err("another one holds the key".into());
     }
-    Ok(active.write(
+    let write = NewWrite {
         session,
         number,
-        WriteAt {
-            table: 1,
-            row: 1,
-            slot: 1,
-            key,
-        },
-    )?)
+        table: 1,
+        row: 1,
+        slot: 1,
+        key: b"a",
+    };
+    Ok(active.write(alloc, &write)?)
 }
 
 fn take_back(active: &mut Active, session: Session, free: bool) -> Result<(), Fail> {

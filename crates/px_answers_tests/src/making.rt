@@ -44,7 +44,7 @@ impl OneTable {
             .ok_or("the table is full")?;
         let slot = version(alloc, place, key, xn, is_row)?;
         let prepared = Prepared::link(1, place, slot);
-        let _cells = self.held.cells_of(&prepared)?;
+        let _version = self.held.version_of(&prepared);
         self.held.lay(prepared);
         Ok(())
     }

@@ -1,14 +1,12 @@
 -- The frame of a version: that the log may hold it, and what the tables then are.
 use Rattle.std.proofs.Common.{◌≡◌, ◌≢◌, ℕ, zero, suc, ◌+◌, ◌-◌, ◌^◌, ◌<◌, Bool, cond, true, false, List, [], ◌∷◌, length, get_or, refl, sym, ap, subst, ◌∙◌, arith, ⊎_elim}
 use Rattle.std.proofs.lemmas.Bool.{cases_eq, eq-eqb, ne_eqb}
-use Rattle.px_cells.specs.declared.cell.Cell.{Cell}
 use Rattle.px_cells.specs.declared.header.Header.{Header}
 use Rattle.px_cells.specs.declared.slot.Slot.{Slot}
 use Rattle.px_chain.specs.Links.{IsStored}
 use Rattle.px_chain.specs.Table.{Table}
 use Rattle.px_change.specs.Grammar.{may_hold}
 use Rattle.px_change.specs.declared.change.Change.{Change}
-use Rattle.px_change.specs.declared.change.ChangeKind.TheVariants.{Put}
 use Rattle.px_held.proofs.Serving.{anywhere, served}
 use Rattle.px_held.specs.Linking.{IsReady, step_of}
 use Rattle.px_held.specs.Serving.{HasSameForm, HeldTables, Serves}
@@ -72,24 +70,20 @@ may_put site held store prepared ready serves = record {
   link = subst (λ (t : Table). IsLink t prepared.linking.header prepared.linking.slot) (ready_table site held store prepared ready serves) ready.linking_is.link;
 }
 
--- what its frame carries
-abbrev pub put_of : Prepared → List Cell → Change
-put_of prepared cells = record { kind = Put; xn = prepared.linking.slot.xn; commit = 0; cells = cells }
+-- what its frame carries: the change of the step, whichever store is served
+abbrev pub IsItsChange : HeldTables → Prepared → Change → Type 0
+IsItsChange held prepared change = (site : State) (store : Store) → Serves site held store → change ≡ change_of held.short store (step_of prepared)
 
--- the cells are those of the step, whichever store is served
-abbrev pub AreItsCells : HeldTables → Prepared → List Cell → Type 0
-AreItsCells held prepared cells = (site : State) (store : Store) → Serves site held store → cells ≡ (change_of held.short store (step_of prepared)).cells
+pub is_of_step : (o : Opening) (prepared : Prepared) (change : Change) → IsItsChange o.held prepared change → IsOfStep (step_of prepared) change o
+is_of_step o prepared change is store has = is o.site store has.serves
 
-pub is_of_step : (o : Opening) (prepared : Prepared) (cells : List Cell) → AreItsCells o.held prepared cells → IsOfStep (step_of prepared) (put_of prepared cells) o
-is_of_step o prepared cells are store has = ap (put_of prepared) (are o.site store has.serves)
-
-pub version_held : (store : Store) (o : Opening) (prepared : Prepared) (cells : List Cell) → HasStore store o → MayBeAppended o.held prepared → FitsFields prepared
-    → AreItsCells o.held prepared cells → may_hold o.log.tables o.log.frames o.log.short (put_of prepared cells) ≡ true
-version_held store o prepared cells has may fits are =
+pub version_held : (store : Store) (o : Opening) (prepared : Prepared) (change : Change) → HasStore store o → MayBeAppended o.held prepared → FitsFields prepared
+    → IsItsChange o.held prepared change → may_hold o.log.tables o.log.frames o.log.short change ≡ true
+version_held store o prepared change has may fits is =
     let unended = with_all_open store in
     let step = step_of prepared in
     let its_table : IsTable o.log.tables prepared.table = subst (λ (n : ℕ). IsTable n prepared.table) has.tables may.ready.at.there in
-    subst (λ (c : Change). may_hold o.log.tables o.log.frames o.log.short c ≡ true) (sym (is_of_step o prepared cells are store has))
+    subst (λ (c : Change). may_hold o.log.tables o.log.frames o.log.short c ≡ true) (sym (is_of_step o prepared change is store has))
     (subst (λ (n : ℕ). may_hold o.log.tables o.log.frames n (change_of o.held.short store step) ≡ true) (sym has.short)
     (change_held no_parts o.held.short o.log.tables o.log.frames unended step (change_of o.held.short store step)
     has.is_short has.few (served o.site o.held store has.serves).sound (may_put o.site o.held store prepared may.ready has.serves)

@@ -58,13 +58,7 @@ pub fn append_version<W: Site>(
     if let Some(frame) = log.full() {
         return Err(LogError::LogFull(frame));
     }
-    let change = Change {
-        kind: ChangeKind::Put,
-        xn: prepared.linking.slot.xn,
-        commit: 0,
-        cells: held.cells_of(&prepared)?,
-    };
-    log.append(site, &change)?;
+    log.append(site, &held.version_of(&prepared))?;
     held.lay(prepared);
     Ok(())
 }

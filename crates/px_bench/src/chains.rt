@@ -39,7 +39,7 @@ fn linked(alloc: Global, count: u32) -> anyhow::Result<Table> {
     let mut table = Table::new(alloc, 1, SHORT)?;
     for number in 0..count {
         let write = put(alloc)?;
-        let Some(linking) = table.prepare(u64::from(number), &write)? else {
+        let Some(linking) = table.prepare(u64::from(number), write)? else {
             anyhow::bail!("the table is full");
         };
         table.lay(linking);

@@ -78,7 +78,7 @@ fn put(alloc: Global) -> anyhow::Result<Change>
 {
     let mut table = Table::new(alloc, 1, SHORT)?;
     let write = row(alloc)?;
-    let Some(linking) = table.prepare(1, &write)? else {
+    let Some(linking) = table.prepare(1, write)? else {
         anyhow::bail!("the table is full");
     };
     let cells = table.cells_of(&linking)?;

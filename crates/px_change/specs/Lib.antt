@@ -2,3 +2,4 @@ pub mod Text
 pub mod Grammar
 pub mod Reading
 pub mod Examples
+pub mod Version

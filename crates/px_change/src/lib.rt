@@ -4,12 +4,14 @@
 //! - `codes`: the bytes that stand for kinds.
 //! - `grammar`: which changes a store may have, as a test that runs.
 //! - `read`: `decode`, a change of its bytes.
-//! - `write`: `encode`, the bytes of a change, and `end_bytes`, those of an end, which take no memory.
+//! - `payload`: `Payload`, the bytes that a frame carries, and those of an end, which take no memory. A `Change` is one, and so is
+//!   `version`'s `Version`: a Put whose cells aren't copied before they stand in the frame.
+//! - `write`: the bytes of a change.
 //! - `stand`: `may_stand`, whether a frame of a store may hold a change of the grammar.
 //! - `laws`: written is read, one reading, sizes, and small examples.
 //!
 //! `specs/Text` has the one text of a change, `specs/Grammar` the grammar and `may_hold`, and `specs/Reading` says which
-//! change bytes hold. What the bytes of a cell say isn't looked at here, only how many they are. The format is in
+//! change bytes hold; `specs/Version` has the change of a `Version`. What the bytes of a cell say isn't looked at here, only how many they are. The format is in
 //! docs/FORMATS.md, 'Change'.
 #![tactic(auto)]
 
@@ -18,8 +20,10 @@ mod codes;
 mod grammar;
 mod laws;
 mod limits;
+mod payload;
 mod read;
 mod stand;
+mod version;
 mod write;
 
 pub use change::{Change, ChangeKind};
@@ -29,6 +33,8 @@ pub use laws::{
     what_a_frame_may_hold, what_a_store_may_have, written_is_read,
 };
 pub use limits::{END_SIZE, LONGEST_TEXT, MOST_CELLS};
+pub use payload::Payload;
 pub use read::decode;
 pub use stand::may_stand;
-pub use write::{encode, end_bytes, text_size};
+pub use version::Version;
+pub use write::text_size;

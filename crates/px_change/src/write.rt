@@ -1,6 +1,5 @@
-ghost use Rattle.std.specs.Prelude.{◌≡◌, ◌^◌, ◌<◌, true, [], ◌∷◌, ◌++◌, length, take, OnOk, OnErr};
+ghost use Rattle.std.specs.Prelude.{◌≡◌, ◌^◌, ◌<◌, [], ◌∷◌, ◌++◌, length, take, OnOk, OnErr};
 ghost use Rattle.std.specs.List.{AllByRecursion, flat_map};
-ghost use Rattle.px_change.specs.Grammar.{is_change};
 ghost use Rattle.px_change.specs.Reading.{Fits};
 ghost use Rattle.px_change.specs.Text.{cell_head, cell_text, change_text, head};
 
@@ -11,23 +10,9 @@ use px_bytes::{put_u8, put_u16, put_u32, put_u64};
 use px_cells::Cell;
 use std::alloc::AllocError;
 
-/// Appends the bytes of a change that a store with that short length may have. Without memory for them `out` stays as it was.
-pub fn encode(change: &Change, short: u32, out: &mut Vec<u8>) -> Result<(), AllocError>
-    requires { is_change short change.now ≡ true }
-    ensures ok { OnOk result (out.new.items ≡ out.old.items ++ change_text change.now) }
-    ensures err { OnErr result (out.new.items ≡ out.old.items) }
-{
-    let before = out.len();
-    let appended = append_change(change, out);
-    if appended.is_err() {
-        out.truncate(before);
-    }
-    appended
-}
-
-// The same, but without memory a part of the bytes may stay.
+/// Appends the bytes of a change. Without memory for them a part of them may stay.
 #[tactic(auto, unfolding(crate::specs::Text::change_text))]
-fn append_change(change: &Change, out: &mut Vec<u8>) -> Result<(), AllocError>
+pub(crate) fn append_change(change: &Change, out: &mut Vec<u8>) -> Result<(), AllocError>
     requires count { length change.now.cells < 256 }
     requires fit { AllByRecursion Fits change.now.cells }
     ensures ok { OnOk result (out.new.items ≡ out.old.items ++ change_text change.now) }
@@ -45,7 +30,7 @@ fn append_change(change: &Change, out: &mut Vec<u8>) -> Result<(), AllocError>
 }
 
 #[tactic(auto, unfolding(crate::specs::Text::head))]
-fn append_head(
+pub(crate) fn append_head(
     out: &mut Vec<u8>,
     kind: u8,
     xn: u64,
@@ -90,7 +75,7 @@ fn append_cell(out: &mut Vec<u8>, cell: &Cell) -> Result<(), AllocError>
 }
 
 #[tactic(auto, unfolding(crate::specs::Text::cell_head))]
-fn append_cell_head(
+pub(crate) fn append_cell_head(
     out: &mut Vec<u8>,
     what: u8,
     table: u8,
@@ -108,7 +93,7 @@ fn append_cell_head(
 
 /// The bytes of a change without cells. It takes no memory.
 #[tactic(auto, unfolding(crate::specs::Text::head, crate::specs::Text::change_text))]
-pub fn end_bytes(change: &Change) -> [u8; END_SIZE]
+pub(crate) fn end_bytes(change: &Change) -> [u8; END_SIZE]
     requires { change.now.cells ≡ [] }
     ensures { result ≡ change_text change.now }
 {

@@ -1,5 +1,5 @@
 use px_cells::{Cell, CellKind, CellList};
-use px_change::{Change, ChangeKind, decode, encode, end_bytes, is_in_grammar, text_size};
+use px_change::{Change, ChangeKind, Payload, decode, is_in_grammar, text_size};
 use px_model::Bytes;
 use std::alloc::{AllocError, Global};
 use std::test::Fail;
@@ -165,11 +165,12 @@ fn each_kind_is_written(rt: HostRuntime) -> Result<(), Fail> {
         let text = text_of(alloc, case)?;
         assert!(rt; is_in_grammar(&change, SHORT));
         let mut out = vec![in alloc; 7]?;
-        encode(&change, SHORT, &mut out)?;
+        change.encode(SHORT, &mut out)?;
         assert_eq!(rt; &out[1..], text.as_slice());
         assert_eq!(rt; text_size(&change), text.len());
-        if change.cells.as_slice().is_empty() {
-            assert_eq!(rt; end_bytes(&change).as_slice(), text.as_slice());
+        match change.end() {
+            Some(end) => assert_eq!(rt; end.as_slice(), text.as_slice()),
+            None => assert!(rt; !change.cells.as_slice().is_empty()),
         }
     }
     Ok(())

@@ -3,15 +3,16 @@ ghost use Rattle.px_calls.specs.Steps.{is_full};
 ghost use Rattle.px_chain.specs.Sound.{IsApart, IsSound, IsUsedRow, Layout};
 ghost use Rattle.px_chain.specs.Table.{Table};
 ghost use Rattle.px_free.specs.Places.{AreFull, rows_of, slots_of};
+ghost use Rattle.px_history.specs.Fitting.{IsTable};
 ghost use Rattle.px_history.specs.Store.{Store};
-ghost use Rattle.px_model.specs.Chains.{variations_of_table};
+ghost use Rattle.px_model.specs.Chains.{variations, variations_of_table};
 ghost use Rattle.px_model.specs.Machine.{Machine};
 ghost use Rattle.px_model.specs.Rows.{in_order};
 ghost use Rattle.px_model.specs.declared.limits.TheConstants.{MOST_VARIATIONS};
 ghost use Rattle.px_shown.specs.Parts.{Parts};
 ghost use Rattle.px_tables.specs.Linking.{IsFull};
 ghost use Rattle.px_cell_laws.specs.Holding.{HoldsChains};
-ghost use Rattle.px_counted.specs.Counts.{slots_in_chains, used_rows};
+ghost use Rattle.px_counted.specs.Counts.{slots_in_all_chains, slots_in_chains, used_rows};
 
 /// Each slot that was ever used stands on the free list or in the chain of a used row, each row pointer is free or used, and
 /// none is counted twice.
@@ -51,4 +52,11 @@ pub fn variations_are_the_slots_in_chains()
         → (IsFull (store.tables t) key ↔ (variations_of_table m t ≡ MOST_VARIATIONS)) }
     ensures calls { (parts : Parts) (m : Machine) (store : Store) (t : ℕ) (key : List ℕ) → HoldsChains parts m store → in_order m.opening ≡ true
         → (store.tables t).header.slots < 2 ^ 32 → (IsFull (store.tables t) key ↔ (is_full m t ≡ true)) }
+{}
+
+/// The versions of all tables are the slots in their chains, where no table but those with these numbers has a row.
+pub fn all_variations_are_the_slots_in_chains()
+    ensures { (parts : Parts) (m : Machine) (store : Store) (tables : ℕ) → HoldsChains parts m store → in_order m.opening ≡ true
+        → ((t row : ℕ) → ¬ IsTable tables t → ¬ IsUsedRow (store.tables t) row)
+        → variations m ≡ slots_in_all_chains tables store }
 {}

@@ -4,7 +4,7 @@
 //! and by what its free lists hold. Nothing here runs.
 //!
 //! - `laws`: the places of sound cells are counted, row pointers run out only where slots have, and a table's versions are the slots
-//!   in its chains.
+//!   in its chains, as those of all tables are.
 //!
 //! `specs/Counts` says what is counted.
 #![tactic(auto)]
@@ -12,5 +12,6 @@
 mod laws;
 
 pub use laws::{
-    places_are_counted, row_pointers_last_as_long_as_slots, variations_are_the_slots_in_chains,
+    all_variations_are_the_slots_in_chains, places_are_counted, row_pointers_last_as_long_as_slots,
+    variations_are_the_slots_in_chains,
 };

@@ -9,3 +9,4 @@ pub mod Stored
 pub mod Sweeping
 pub mod Unlinked
 pub mod Walks
+pub mod Counting

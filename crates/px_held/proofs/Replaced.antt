@@ -3,7 +3,7 @@ use Rattle.std.proofs.Common.{◌≡◌, ◌≢◌, ℕ, zero, suc, ◌+◌, ◌
 use Rattle.std.specs.Prelude.{IfOk, IfSome}
 use Rattle.std.proofs.lemmas.Bool.{cases_eq, eq-eqb, ne_eqb}
 use Rattle.std.proofs.lemmas.List.{get_or_default, get_or-set_same, length-set}
-use Rattle.px_chain.specs.Cells.{cell_of}
+use Rattle.px_change.specs.Version.{version_change}
 use Rattle.px_chain.specs.Links.{IsStored, link_cells}
 use Rattle.px_chain.specs.Table.{Table, laid}
 use Rattle.px_history.specs.Steps.{after_put, layout_linked}
@@ -202,16 +202,13 @@ next_places held table key None same places = tt
 next_places held table key (Some place) same places =
     subst (λ (t : Table). IsNextPlace t key place) same (record { its_number = places.number_is; link = places.link })
 
--- the cells of what was prepared are those of the store's step
-pub cells_are : (site : State) (held : HeldTables) (store : Store) (prepared : Prepared) (old : Held) → IsReady held prepared → IsTableOf held prepared.table old
-    → IsPrepared old prepared.linking → Serves site held store
-    → map (cell_of old.cells.number old.cells.short) (link_cells prepared.linking.header prepared.linking.number prepared.linking.slot)
-    ≡ (change_of held.short store (step_of prepared)).cells
-cells_are site held store prepared old ready at linking serves =
+-- what the frame of what was prepared carries is the change of the store's step
+pub version_is : (site : State) (held : HeldTables) (store : Store) (prepared : Prepared) (ready : IsReady held prepared) → IsTableOf held prepared.table ready.table
+    → Serves site held store
+    → version_change held.short prepared.table prepared.linking.header prepared.linking.number prepared.linking.slot ≡ change_of held.short store (step_of prepared)
+version_is site held store prepared ready at serves =
     let header = prepared.linking.header in
     let slot = prepared.linking.slot in
-    let same : table_of old.cells ≡ store.tables prepared.table = sym (table_served site held store prepared.table serves at) in
-    ap (λ (t : ℕ). map (cell_of t old.cells.short) (link_cells header prepared.linking.number slot)) at.numbered.its_number
-    ∙ ap (λ (short : ℕ). map (cell_of prepared.table short) (link_cells header prepared.linking.number slot)) at.numbered.its_short
-    ∙ ap (λ (number : ℕ). map (cell_of prepared.table held.short) (link_cells header number slot)) linking.number
-    ∙ ap (λ (t : Table). map (cell_of prepared.table held.short) (link_cells header (taken_slot t) slot)) same
+    let same : table_of ready.table.cells ≡ store.tables prepared.table = sym (table_served site held store prepared.table serves at) in
+    ap (λ (number : ℕ). version_change held.short prepared.table header number slot) ready.linking_is.number
+    ∙ ap (λ (t : Table). version_change held.short prepared.table header (taken_slot t) slot) same

@@ -12,6 +12,7 @@ ghost use Rattle.px_tables.specs.Held.{table_of};
 ghost use Rattle.px_held.specs.Errors.{IfDamage, IsDamage};
 ghost use Rattle.px_held.specs.Serving.{AreNumbered, IsTableOf, Serves};
 
+mod counting;
 mod linking;
 mod reading;
 mod sweeping;

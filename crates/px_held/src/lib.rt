@@ -2,8 +2,8 @@
 //! answer a fault of a read or that a cell is damaged: once the tables' cells are read from their files, the calls say the same.
 //!
 //! - `held`: `Held`, the tables. `held/reading` finds a key's row and the keys in their order, and says which version of a row a
-//!   reader sees, and which one was committed last; `held/linking` takes the place for a new version and lays it, `held/unlinking`
-//!   that versions go; `held/tidying` finds the versions that nobody will see, `held/sweeping` those that go with a write that is due. A change has two halves: what prepares it changes no cell, and what lays it takes no memory and can't fail.
+//!   reader sees, and which one was committed last; `held/linking` takes the place for a new version, has what its frame
+//!   carries, and lays it, `held/unlinking` that versions go; `held/tidying` finds the versions that nobody will see, `held/sweeping` those that go with a write that is due; `held/counting` tells how many versions there are. A change has two halves: what prepares it changes no cell, and what lays it takes no memory and can't fail.
 //! - `prepared`: `Prepared` and `PreparedUnlink`, what is prepared. `run`: `Run`, versions one behind the other. `reader`: `Reader`, who
 //!   reads. `walking`: walks along the chain of a row.
 //! - `error`: `HeldError`, why a call gives up.

@@ -34,7 +34,7 @@ fn link(held: &mut Held, alloc: Global, key: u8, xn: u32) -> Result<(), Fail>
         .ok_or("the table is full")?;
     let slot = version(alloc, place, key, xn)?;
     let prepared = Prepared::link(1, place, slot);
-    let _cells = held.cells_of(&prepared)?;
+    let _version = held.version_of(&prepared);
     held.lay(prepared);
     Ok(())
 }

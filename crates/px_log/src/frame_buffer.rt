@@ -4,7 +4,7 @@ ghost use Rattle.px_change.specs.Text.{change_text};
 ghost use Rattle.px_frame.specs.Frame.{frame};
 
 use px_bytes::LONGEST_PAYLOAD;
-use px_change::{Change, END_SIZE, encode, end_bytes};
+use px_change::{END_SIZE, Payload};
 use px_frame::{HEADER_SIZE, frame_header};
 use std::alloc::{AllocError, Global};
 use std::marker::Model;
@@ -40,17 +40,22 @@ impl FrameBuffer {
         }
     }
 
-    /// Takes the frame of a change with this number, in place of what was there, in a store with that short length.
-    pub fn fill(&mut self, number: u64, change: &Change, short: u32) -> Result<(), AllocError>
-        requires { is_change short change.now ≡ true }
-        ensures frame { OnOk result (self.new ≡ frame number (change_text change.now)) }
-        ensures room { change.now.cells ≡ [] → OnErr result ⊥ }
+    /// Takes the frame of a payload with this number, in place of what was there, in a store with that short length.
+    pub fn fill<P: Payload>(
+        &mut self,
+        number: u64,
+        payload: &P,
+        short: u32,
+    ) -> Result<(), AllocError>
+        requires { is_change short (P.change payload.now) ≡ true }
+        ensures frame { OnOk result (self.new ≡ frame number (change_text (P.change payload.now))) }
+        ensures room { (P.change payload.now).cells ≡ [] → OnErr result ⊥ }
     {
-        if change.cells.as_slice().is_empty() {
-            self.fill_end(end_frame(number, change));
+        if let Some(end) = payload.end() {
+            self.fill_end(end_frame(number, &end));
             return Ok(());
         }
-        self.fill_cells(number, change, short)
+        self.fill_cells(number, payload, short)
     }
 
     fn fill_end(&mut self, frame: [u8; END_FRAME_SIZE])
@@ -60,15 +65,20 @@ impl FrameBuffer {
         self.is_end = true;
     }
 
-    // The payload is written behind the room of its header, which needs its sum: so the cells are copied once.
-    fn fill_cells(&mut self, number: u64, change: &Change, short: u32) -> Result<(), AllocError>
-        requires { is_change short change.now ≡ true }
-        ensures { OnOk result (self.new ≡ frame number (change_text change.now)) }
+    // The payload is written behind the room of its header, which needs its sum: so its bytes are copied once.
+    fn fill_cells<P: Payload>(
+        &mut self,
+        number: u64,
+        payload: &P,
+        short: u32,
+    ) -> Result<(), AllocError>
+        requires { is_change short (P.change payload.now) ≡ true }
+        ensures { OnOk result (self.new ≡ frame number (change_text (P.change payload.now))) }
     {
         self.is_end = false;
         self.bytes.clear();
         self.bytes.extend_from_slice(&[0; HEADER_SIZE])?;
-        encode(change, short, &mut self.bytes)?;
+        payload.encode(short, &mut self.bytes)?;
         write_header(&mut self.bytes, number);
         Ok(())
     }
@@ -95,14 +105,12 @@ fn write_header(bytes: &mut [u8], number: u64)
 }
 
 // The frame of a change without cells, as px_frame's `write_frame` writes it.
-fn end_frame(number: u64, change: &Change) -> [u8; END_FRAME_SIZE]
-    requires { change.now.cells ≡ [] }
-    ensures { result ≡ frame number (change_text change.now) }
+fn end_frame(number: u64, payload: &[u8; END_SIZE]) -> [u8; END_FRAME_SIZE]
+    ensures { result ≡ frame number payload.now }
 {
-    let payload = end_bytes(change);
-    let header = frame_header(number, &payload);
+    let header = frame_header(number, payload);
     let mut frame = [0; END_FRAME_SIZE];
     frame[..HEADER_SIZE].copy_from_slice(&header);
-    frame[HEADER_SIZE..].copy_from_slice(&payload);
+    frame[HEADER_SIZE..].copy_from_slice(payload);
     frame
 }

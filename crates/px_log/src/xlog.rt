@@ -12,7 +12,7 @@ ghost use Rattle.px_xlog.specs.Contents.{the_log};
 use crate::LogError;
 use crate::frame_buffer::FrameBuffer;
 use crate::place::{FIRST_NUMBER, MOST_FRAMES, ONLY_SEGMENT, log_file};
-use px_change::Change;
+use px_change::Payload;
 use px_restart::Restart;
 use px_site::{Fault, Site, SiteError};
 use std::alloc::Global;
@@ -60,22 +60,26 @@ impl Xlog {
         }
     }
 
-    /// Appends a frame of the change, and answers its number. LogFull where the log takes no frame of that number;
+    /// Appends a frame of the payload, and answers its number. LogFull where the log takes no frame of that number;
     /// OutOfMemory where the site wants memory or, for a change with cells alone, the call itself does. Both leave the
     /// site as it was; a fault may not.
-    pub fn append<W: Site>(&mut self, site: &mut W, change: &Change) -> Result<u64, LogError>
-        requires { may_hold self.old.tables self.old.frames self.old.short change.now ≡ true }
+    pub fn append<W: Site, P: Payload>(
+        &mut self,
+        site: &mut W,
+        payload: &P,
+    ) -> Result<u64, LogError>
+        requires { may_hold self.old.tables self.old.frames self.old.short (P.change payload.now) ≡ true }
         ensures number { IfOk result (λ number. number ≡ self.old.frames) }
-        ensures marks { OnOk result (self.new ≡ with_frame change.now self.old) }
+        ensures marks { OnOk result (self.new ≡ with_frame (P.change payload.now) self.old) }
         ensures as_before { OnErr result (self.new ≡ self.old) }
         ensures logged { W.tells → (changes : List Change) → IsLogOf self.old changes (W.state site.old)
-            → OnOk result (IsLogOf self.new (changes ++ change.now ∷ []) (W.state site.new)) }
+            → OnOk result (IsLogOf self.new (changes ++ P.change payload.now ∷ []) (W.state site.new)) }
         ensures untouched { W.tells → IfErr result (LeavesUntouched (W.state site.old) (W.state site.new)) }
         ensures moments { W.tells → (changes : List Change) → IsLogOf self.old changes (W.state site.old)
-            → EachMoment (OnFile the_log (W.state site.old).now (HasFirst self.old.durable (changes ++ change.now ∷ []))) (W.state site.old) (W.state site.new) }
+            → EachMoment (OnFile the_log (W.state site.old).now (HasFirst self.old.durable (changes ++ P.change payload.now ∷ []))) (W.state site.old) (W.state site.new) }
         ensures touches { W.tells → TouchesLog 1 (W.state site.old) (W.state site.new) }
         ensures full { full_at self.old ≡ Some self.old.frames → IsErrOf result (LogError.LogFull self.old.frames) }
-        ensures room { change.now.cells ≡ []
+        ensures room { (P.change payload.now).cells ≡ []
             → IfErr result (λ error. OnShortage error (Rose (W.counts site.old).shorts (W.counts site.new).shorts)) }
         ensures none_fell { NoneFell (W.counts site.old) (W.counts site.new) }
         ensures cause { IfErr result (HasLogCause self.old (W.counts site.old) (W.counts site.new)) }
@@ -85,7 +89,7 @@ impl Xlog {
         if number >= MOST_FRAMES {
             return Err(LogError::LogFull(number));
         }
-        self.buffer.fill(number, change, self.short)?;
+        self.buffer.fill(number, payload, self.short)?;
         let frame = self.buffer.as_slice();
         site.write_at(log_file(), self.size, frame)?;
         self.size += frame.len() as u64;

@@ -1,5 +1,5 @@
 use crate::logs::{LOG, RESTART, put_in};
-use px_change::{encode, is_in_grammar};
+use px_change::{Payload, is_in_grammar};
 use px_frame::write_frame;
 use px_log::{LogOpenError, open_log};
 use px_memsite::MemSite;
@@ -23,7 +23,7 @@ fn put_bytes(rt: &impl Abort, alloc: Global, table: u8) -> Result<Vec<u8>, Fail>
     let put = put_in(alloc, table)?;
     assert!(rt; is_in_grammar(&put, RESTART.short));
     let mut bytes = Vec::new(alloc);
-    encode(&put, RESTART.short, &mut bytes)?;
+    put.encode(RESTART.short, &mut bytes)?;
     Ok(bytes)
 }
 

@@ -1,41 +1,60 @@
--- What a call and the telling of its reply leave.
-use Rattle.std.proofs.Common.{◌≡◌, ◌⊎◌, ℕ, ◌+◌, ◌≤◌, ◌==◌, Bool, true, false, cond, List, [], ◌∷◌, ◌++◌, length, take, Option, Some, None, Result, Ok, Err, refl, sym, ap, subst, ◌∙◌, inl, inr, arith}
+-- What a step and the telling of its answer leave.
+use Rattle.std.proofs.Common.{◌≡◌, ◌≢◌, ◌⊎◌, ℕ, ◌+◌, ◌≤◌, ◌==◌, Bool, true, false, cond, List, [], ◌∷◌, ◌++◌, length, take, Option, Some, None, Result, Ok, Err, refl, sym, ap, subst, ◌∙◌, inl, inr, arith}
+use Rattle.std.specs.Prelude.{nat_lt, slice_get, ◌&&◌}
 use Rattle.std.specs.Result.{IfErr}
 use Rattle.std.proofs.lemmas.Bool.{cases_lt}
-use Rattle.px_site.specs.declared.error.Fault.TheVariants.{Tell}
-use Rattle.px_site.specs.State.{State, Moment, EachMoment}
+use Rattle.std.proofs.lemmas.List.{nil_from_length}
+use Rattle.px_site.specs.declared.error.Fault.{Fault}
+use Rattle.px_site.specs.declared.error.Fault.TheVariants.{Read, Tell, Write}
+use Rattle.px_site.specs.State.{State, Moment, EachMoment, telling, told}
 use Rattle.px_site.specs.Cause.{Counts, NoneFell, Rose}
-use Rattle.px_site.proofs.Moments.{then_moments}
+use Rattle.px_site.proofs.Moments.{same_moment, then_moments, weaker_moments}
 use Rattle.px_site.specs.declared.error.SiteError.TheVariants.{OutOfMemory as SiteShort, Fault as SiteFault}
+use Rattle.px_site.specs.declared.name.FileName.{FileName}
+use Rattle.px_chain_laws.specs.Sweeping.{base_of}
+use Rattle.px_model.specs.declared.machine.Flat.{Flat}
 use Rattle.px_model.specs.declared.machine.Open.{Open}
-use Rattle.px_model.specs.declared.write.Write.{Write}
-use Rattle.px_model.specs.Machine.{Machine}
+use Rattle.px_model.specs.declared.write.Write.{Write as RowWrite}
+use Rattle.px_model.specs.Machine.{Machine, flat, horizon}
+use Rattle.px_model.specs.Rows.{key_written}
 use Rattle.px_calls.specs.declared.call.Call.{Call}
 use Rattle.px_calls.specs.declared.call.Call.TheVariants.{Get, Hold, Find, Scan, Insert, Update, Delete, Commit, Rollback}
 use Rattle.px_calls.specs.declared.reply.Reply.{Reply}
 use Rattle.px_calls.specs.declared.status.Status.{Status}
-use Rattle.px_calls.specs.declared.status.Status.TheVariants.{Damaged, OutputFault, OutOfMemory, LogFull}
+use Rattle.px_calls.specs.declared.status.Status.TheVariants.{Damaged, DiskFault, OutputFault, OutOfMemory, LogFull}
 use Rattle.px_calls.specs.Steps.{open_of, is_refusal, reply_of, state_after}
+use Rattle.px_calls.specs.Histories.{Step, by, sweep, step_reply}
 use Rattle.px_calls.specs.Texts.{reply_text}
 use Rattle.px_told.specs.declared.change.Change.{Change}
 use Rattle.px_log.specs.Log.{most_frames}
 use Rattle.px_logged.specs.Logged.{put_of, end_of, logged_when_done, logged}
+use Rattle.px_engine.specs.Counts.{census_of, marks_at}
+use Rattle.px_engine.specs.Engine.{Engine, durable_with}
+use Rattle.px_engine.specs.Frames.{frames_of_due, step_frames, sweep_frames, syncs, unlinks_over}
+use Rattle.px_engine.specs.Texts.{stat_text}
+use Rattle.px_engine.specs.declared.census.Census.{Census}
+use Rattle.px_engine.specs.declared.census.Marks.{Marks}
+use Rattle.px_engine.specs.Requests.{Request, Ask, Stat, after_request, answer_text}
 use Rattle.px_cell_standing.specs.Images.{StandsBetween}
+use Rattle.px_standing.specs.Images.{LeavesOthers}
 use Rattle.px_standing.proofs.Moments.{last_moment}
 use Rattle.px_core.specs.declared.error.CoreError.{CoreError}
 use Rattle.px_core.specs.declared.error.CoreError.TheVariants.{OutOfMemory as CoreShort, Fault as FaultOf, LogFull as FullAt, Damaged as DamagedAt, Broken}
-use Rattle.px_core.specs.Core.{MayMeet, OnlyCommit, frames_of}
+use Rattle.px_core.specs.Core.{MayMeet, OnlyCommit, durable_of, frames_of}
 use Rattle.px_core.specs.declared.state.Kept.{Kept}
 use Rattle.px_core.specs.Errors.{IsPassing, status_of}
-use Rattle.px_core.specs.Working.{Answers, AsBefore, FindsFull, Leaves, Refuses, StandsWithin, WorksFor}
+use Rattle.px_core.specs.Working.{Answers, AsBefore, FindsFull, Leaves, Refuses, StandsWithin, WorksFor, durable_after}
+use Rattle.px_core.specs.Sweeping.{AnswersSweep, FindsFullSweep, LeavesSweep, RefusesSweep, StandsWithinSweep}
 use Rattle.px_play.specs.Causes.{HasPlayCause, IsUndamaged}
-use Rattle.px_play.specs.Turns.{HasAnswerEnd, HasTellEnd, IsStill, TellsReply, WasMade, TurnsRight, KeepsWithin}
+use Rattle.px_play.specs.Engine.{IsEngine}
+use Rattle.px_play.specs.Serving.{HasStepEnd, Replied, ServesRight, StepStands}
+use Rattle.px_play.specs.Turns.{HasAnswerEnd, HasTellEnd, IsCommit, TellsText, WasMade, TurnsRight, KeepsWithin}
 use Rattle.px_play.proofs.Stays.{stands_whole}
-use Rattle.px_play.proofs.Acking.{call_moments, reply_moments}
+use Rattle.px_play.proofs.Acking.{answer_moments, goes, spoke_moments, step_moments}
 
 -- ---- the log has room
 
-put_few : (m : Machine) (slot : Option Open) (write : Write) → length (put_of m slot write) ≤ 1
+put_few : (m : Machine) (slot : Option Open) (write : RowWrite) → length (put_of m slot write) ≤ 1
 put_few m None write = omega arith
 put_few m (Some x) write = omega arith
 
@@ -65,13 +84,26 @@ logged_few m session call = unless_refused (is_refusal (reply_of m session call)
     unless_refused false changes few = few
 
 -- no frame is written that has no number
-numbered : (frames : ℕ) (added : List Change) → length added ≤ 1 → (most_frames ≤ frames → added ≡ []) → (added ≡ []) ⊎ (frames + length added ≤ most_frames)
-numbered frames added few room = elim (cases_lt frames most_frames) as (λ _. (added ≡ []) ⊎ (frames + length added ≤ most_frames)) [
+numbered : (frames added : ℕ) → added ≤ 1 → (most_frames ≤ frames → added ≡ 0) → (frames + added ≡ frames) ⊎ (frames + added ≤ most_frames)
+numbered frames added few room = elim (cases_lt frames most_frames) as (λ _. (frames + added ≡ frames) ⊎ (frames + added ≤ most_frames)) [
   | inl below ↦ inr (omega (arith, below, few))
-  | inr full ↦ inl (room full)
+  | inr full ↦ inl (omega (arith, room full))
 ]
 
--- ---- the call was answered
+-- a core that works for a machine is an engine
+abbrev pub engine_at : {W : Type 0} → Kept W → Machine → Engine
+engine_at core m = record { machine = m; frames = frames_of core; durable = durable_of core }
+
+pub engine_is : {W : Type 0} {state : W → State} {core : Kept W} {m : Machine} → WorksFor state core m → IsEngine state core (engine_at core m)
+engine_is works = record { works = works; frames = refl; durable = refl }
+
+-- ---- a call was answered
+
+-- what a step makes durable, by what the core had before
+durable_alike : {W : Type 0} {state : W → State} {old : Kept W} (e : Engine) (step : Step) → IsEngine state old e → durable_after e.machine step old ≡ durable_with e step
+durable_alike {W} {state} {old} e step engine =
+    ap (λ (f : ℕ). cond (syncs e.machine step) (f + step_frames e.machine step) (durable_of old)) engine.frames
+    ∙ ap (λ (d : ℕ). cond (syncs e.machine step) (e.frames + step_frames e.machine step) d) engine.durable
 
 -- what was told is as it was
 told_still : {least most : ℕ} {m : Machine} {a b : State} → EachMoment (StandsBetween least most m a.now) a b → b.now.told ≡ a.now.told
@@ -81,104 +113,216 @@ told_still {least} {most} {m} {a} {b} moments =
       | inr stands ↦ stands.told
     ]
 
--- the core works for a machine still, wherever it did before its reply was told
-abbrev pub WorksOn : {W : Type 0} → (W → State) → (mid new : Kept W) → Type 0
-WorksOn state mid new = (m : Machine) → WorksFor state mid m → WorksFor state new m
-
-was_made : {W : Type 0} {state : W → State} {session : ℕ} {call : Call} {old mid new : Kept W} {reply : Reply} {m : Machine} → Answers state session call m old mid reply → WorksOn state mid new → new ≡ record mid { site = new.site }
-    → WasMade state m (session, call) old new
-was_made {W} {state} {session} {call} {old} {mid} {new} {reply} {m} answers on rest =
-    let frames : frames_of new ≡ frames_of old + length (logged m session call) = ap frames_of rest ∙ answers.frames in
+pub call_replied : {W : Type 0} {state : W → State} (session : ℕ) (call : Call) (e : Engine) {old new : Kept W} {reply : Reply} → IsEngine state old e → StandsWithin state session call e.machine old new
+    → Answers state session call e.machine old new reply → Replied state e (by session call) old new reply
+call_replied {W} {state} session call e {old} {new} {reply} engine stands answers =
+    let frames : frames_of new ≡ e.frames + length (logged e.machine session call) = omega (arith, answers.frames, engine.frames) in
+    let durable : durable_of new ≡ durable_with e (by session call) = answers.durable ∙ durable_alike e (by session call) engine in
     record {
-      works = on (state_after m session call) answers.works;
-      frames = frames;
-      numbered = subst (λ (n : ℕ). (logged m session call ≡ []) ⊎ (n ≤ most_frames)) (sym frames) (numbered (frames_of old) (logged m session call) (logged_few m session call) answers.room);
+      made = record {
+        engine = record { works = answers.works; frames = frames; durable = durable };
+        numbered = numbered e.frames (length (logged e.machine session call)) (logged_few e.machine session call) (λ full. ap length (answers.room (omega (arith, full, engine.frames))));
+      };
+      reply_is = answers.reply_is;
+      told = told_still stands;
     }
 
-pub answered_right : {W : Type 0} {state : W → State} (counts : W → Counts) {session : ℕ} {call : Call} {old mid : Kept W} (new : Kept W) {reply : Reply} {m : Machine} → Answers state session call m old mid reply
-    → StandsWithin state session call m old mid → WorksOn state mid new → new ≡ record mid { site = new.site } → (result : Result (Unit {0}) Status)
-    → TellsReply reply (state mid.site) (state new.site) result → IfErr result (HasTellEnd (counts mid.site) (counts new.site)) → TurnsRight state counts m (session, call) old new result
-answered_right {W} {state} counts {session} {call} {old} {mid} new {reply} {m} answers stands on rest result tells_reply ends = by_result result tells_reply ends
-  where
-    before : (state mid.site).now.told ≡ (state old.site).now.told
-    before = told_still stands
-
-    made : WasMade state m (session, call) old new
-    made = was_made answers on rest
-
-    by_result : (result : Result (Unit {0}) Status) → TellsReply reply (state mid.site) (state new.site) result → IfErr result (HasTellEnd (counts mid.site) (counts new.site)) → TurnsRight state counts m (session, call) old new result
-    by_result (Ok done) spoken ends = record {
-      made = made;
-      told = ap (λ (s : State). s.now.told) spoken ∙ ap (λ (r : Reply). (state mid.site).now.told ++ reply_text r) answers.reply_is
-          ∙ ap (λ (b : List ℕ). b ++ reply_text (reply_of m session call)) before;
-    }
-    by_result (Err OutputFault) spoken ends = (
-      spoken.0,
-      record {
-        made = made;
-        told = ap (λ (s : State). s.now.told) spoken.1 ∙ ap (λ (r : Reply). (state mid.site).now.told ++ take spoken.0 (reply_text r)) answers.reply_is
-            ∙ ap (λ (b : List ℕ). b ++ take spoken.0 (reply_text (reply_of m session call))) before;
-      },
-    )
-    by_result (Err (LogFull n)) same ends = absurd ends
-    by_result (Err OutOfMemory) same ends = record { told = ap (λ (s : State). s.now.told) same ∙ before; left = inr (inl made) }
-    by_result (Err _) same ends = absurd ends
-
-pub answered_moments : {W : Type 0} {state : W → State} {session : ℕ} {call : Call} {old mid : Kept W} (new : Kept W) {reply : Reply} {m : Machine} → Answers state session call m old mid reply
-    → StandsWithin state session call m old mid → (result : Result (Unit {0}) Status) → TellsReply reply (state mid.site) (state new.site) result
-    → KeepsWithin m (session, call) (state old.site) (state new.site)
-answered_moments {W} {state} {session} {call} {old} {mid} new {reply} {m} answers stands result tells_reply = λ before acks calls.
-    let telling : TellsReply (reply_of m session call) (state mid.site) (state new.site) result =
-    subst (λ (r : Reply). TellsReply r (state mid.site) (state new.site) result) answers.reply_is tells_reply in
-    then_moments (call_moments session call calls acks stands) (reply_moments session call calls acks (told_still stands) (stands_whole answers.works) result telling)
-
--- ---- the core gave up
+-- ---- the core gave up a call
 
 no_error : {A : Type 0} (kept : Option A) (error : A) → kept ≡ None → kept ≡ Some error → ⊥
 no_error kept error none some = cc (sym none ∙ some)
 
-still : {W : Type 0} {tells : Type 0} {state : W → State} {m : Machine} {old new : Kept W} → tells → AsBefore tells state old new → WorksFor state old m → IsStill state m old new
-still {W} {tells} {state} {m} told before works = record { works = before.works told m works; frames = before.frames }
+still : {W : Type 0} {tells : Type 0} {state : W → State} {e : Engine} {old new : Kept W} → tells → AsBefore tells state old new → IsEngine state old e → IsEngine state new e
+still {W} {tells} {state} {e} told before engine = record { works = before.works told e.machine engine.works; frames = before.frames ∙ engine.frames; durable = before.durable ∙ engine.durable }
 
 only_commit : {P : Type 0} (call : Call) → OnlyCommit call P → (call ≡ Commit) × P
 only_commit Commit p = (refl, p)
 only_commit _ none = absurd none
 
 -- want of memory
-left_short : {W : Type 0} {tells : Type 0} {state : W → State} (counts : W → Counts) (session : ℕ) (call : Call) {m : Machine} {old new : Kept W} → tells → Leaves tells state counts call old new CoreShort → WorksFor state old m
-    → IsStill state m old new ⊎ (WasMade state m (session, call) old new ⊎ ((call ≡ Commit) × Rose (counts old.site).shorts (counts new.site).shorts))
-left_short counts session call told (inl before) works = inl (still told before works)
-left_short counts session call told (inr only) works = let one = only_commit call only in inr (inr (one.0, one.1.1))
+left_short : {W : Type 0} {tells : Type 0} {state : W → State} (counts : W → Counts) (session : ℕ) (call : Call) {e : Engine} {old new : Kept W} → tells → Leaves tells state counts call old new CoreShort → IsEngine state old e
+    → IsEngine state new e ⊎ (WasMade state e (Ask (by session call)) new ⊎ (IsCommit (Ask (by session call)) × Rose (counts old.site).shorts (counts new.site).shorts))
+left_short counts session call told (inl before) engine = inl (still told before engine)
+left_short counts session call told (inr only) engine = let one = only_commit call only in inr (inr ((session, ap (λ (c : Call). Ask (by session c)) one.0), one.1.1))
 
-pub refused_right : {W : Type 0} {tells : Type 0} {state : W → State} {counts : W → Counts} (session : ℕ) (call : Call) (m : Machine) {old new : Kept W} (error : CoreError) → tells → Refuses tells state counts call old new error
-    → FindsFull session call m old error → StandsWithin state session call m old new → WorksFor state old m → TurnsRight state counts m (session, call) old new (Err (status_of error))
-refused_right {W} {tells} {state} {counts} session call m CoreShort told refuses full stands works = record { told = told_still stands; left = left_short counts session call told refuses.leaves works }
-refused_right session call m (FaultOf fault) told refuses full stands works = told_still stands
-refused_right session call m (FullAt n) told refuses full stands works =
+some_frames : (changes : List Change) → changes ≢ [] → length changes ≢ 0
+some_frames changes some none = some (nil_from_length changes none)
+
+pub call_refused : {W : Type 0} {tells : Type 0} {state : W → State} {counts : W → Counts} (session : ℕ) (call : Call) (e : Engine) {old new : Kept W} (error : CoreError) → tells → IsEngine state old e → StandsWithin state session call e.machine old new
+    → Refuses tells state counts call old new error → FindsFull session call e.machine old error → ServesRight state counts e (by session call) old new (Err (status_of error))
+call_refused {W} {tells} {state} {counts} session call e CoreShort told engine stands refuses full = record { told = told_still stands; left = left_short counts session call told refuses.leaves engine }
+call_refused session call e (FaultOf fault) told engine stands refuses full = told_still stands
+call_refused session call e (FullAt n) told engine stands refuses full =
     let is = full n refl in
     record {
-      still = still told refuses.leaves works;
+      still = still told refuses.leaves engine;
       told = told_still stands;
-      writes = is.0;
-      number = is.1;
+      writes = some_frames (logged e.machine session call) is.0;
+      number = is.1 ∙ engine.frames;
       none_left = is.2;
     }
-refused_right session call m (DamagedAt file place) told refuses full stands works = told_still stands
-refused_right session call m (Broken SiteShort) told refuses full stands works = record { told = told_still stands; left = inl (still told refuses.leaves works) }
-refused_right session call m (Broken (SiteFault fault)) told refuses full stands works = told_still stands
+call_refused session call e (DamagedAt file place) told engine stands refuses full = told_still stands
+call_refused session call e (Broken SiteShort) told engine stands refuses full = record { told = told_still stands; left = inl (still told refuses.leaves engine) }
+call_refused session call e (Broken (SiteFault fault)) told engine stands refuses full = told_still stands
 
-pub refused_moments : {W : Type 0} (state : W → State) (session : ℕ) (call : Call) (m : Machine) (old new : Kept W) → StandsWithin state session call m old new → KeepsWithin m (session, call) (state old.site) (state new.site)
-refused_moments state session call m old new stands = λ before acks calls. call_moments session call calls acks stands
+pub core_ends : (error : CoreError) → HasStepEnd (status_of error)
+core_ends CoreShort = tt
+core_ends (FaultOf fault) = tt
+core_ends (FullAt n) = tt
+core_ends (DamagedAt file place) = tt
+core_ends (Broken SiteShort) = tt
+core_ends (Broken (SiteFault fault)) = tt
+
+-- ---- a sweep
+
+-- it has one frame at most
+sweep_few : (m : Machine) → sweep_frames m ≤ 1
+unfolding sweep_frames
+sweep_few m = by_next (slice_get (flat m) m.swept)
+  where
+    by_due : (due : Bool) → cond due 1 0 ≤ 1
+    by_due true = omega arith
+    by_due false = omega arith
+
+    by_next : (next : Option Flat) → frames_of_due m next ≤ 1
+    by_next None = omega arith
+    by_next (Some w) = by_due (nat_lt w.place (horizon m) && unlinks_over w (base_of m (key_written w.write)))
+
+pub sweep_replied : {W : Type 0} {state : W → State} (e : Engine) {old new : Kept W} {reply : Reply} → IsEngine state old e → StandsWithinSweep state e.machine old new → AnswersSweep state e.machine old new reply
+    → Replied state e sweep old new reply
+sweep_replied {W} {state} e {old} {new} {reply} engine stands answers = record {
+  made = record {
+    engine = record { works = answers.works; frames = omega (arith, answers.frames, engine.frames); durable = answers.durable ∙ engine.durable };
+    numbered = numbered e.frames (sweep_frames e.machine) (sweep_few e.machine) (λ full. answers.room (omega (arith, full, engine.frames)));
+  };
+  reply_is = answers.reply_is;
+  told = told_still stands;
+}
+
+pub sweep_refused : {W : Type 0} {tells : Type 0} {state : W → State} {counts : W → Counts} (e : Engine) {old new : Kept W} (error : CoreError) → tells → IsEngine state old e → StandsWithinSweep state e.machine old new
+    → RefusesSweep tells state counts old new error → FindsFullSweep e.machine old error → ServesRight state counts e sweep old new (Err (status_of error))
+sweep_refused {W} {tells} {state} {counts} e CoreShort told engine stands refuses full = record { told = told_still stands; left = inl (still told refuses.leaves engine) }
+sweep_refused e (FaultOf fault) told engine stands refuses full = told_still stands
+sweep_refused e (FullAt n) told engine stands refuses full =
+    let is = full n refl in
+    record {
+      still = still told refuses.leaves engine;
+      told = told_still stands;
+      writes = is.0;
+      number = is.1 ∙ engine.frames;
+      none_left = is.2;
+    }
+sweep_refused e (DamagedAt file place) told engine stands refuses full = told_still stands
+sweep_refused e (Broken SiteShort) told engine stands refuses full = record { told = told_still stands; left = inl (still told refuses.leaves engine) }
+sweep_refused e (Broken (SiteFault fault)) told engine stands refuses full = told_still stands
+
+no_sweep_tell : (fault : Fault) → (fault ≡ Read) ⊎ (fault ≡ Write) → fault ≢ Tell
+no_sweep_tell fault (inl read) told = cc (sym read ∙ told)
+no_sweep_tell fault (inr write) told = cc (sym write ∙ told)
+
+pub sweep_cause : {W : Type 0} {tells : Type 0} {state : W → State} {counts : W → Counts} {old new : Kept W} (error : CoreError) → old.error ≡ None → RefusesSweep tells state counts old new error
+    → HasPlayCause (counts old.site) (counts new.site) 0 0 (status_of error)
+sweep_cause CoreShort whole refuses = tt
+sweep_cause (FaultOf fault) whole refuses = (no_sweep_tell fault refuses.cause.0, refuses.cause.1)
+sweep_cause (FullAt n) whole refuses = refuses.cause.1
+sweep_cause (DamagedAt file place) whole refuses = tt
+sweep_cause (Broken SiteShort) whole refuses = tt
+sweep_cause {W} {tells} {state} {counts} {old} (Broken (SiteFault fault)) whole refuses = absurd (no_error old.error (SiteFault fault) whole refuses.cause)
+
+-- ---- the numbers of an engine
+
+-- they are those of its machine and its log
+pub numbers_are : {W : Type 0} {state : W → State} {core : Kept W} (e : Engine) (census : Census) (marks : Marks) → IsEngine state core e → census ≡ census_of e.machine → marks ≡ marks_at (frames_of core) (durable_of core)
+    → stat_text census marks ≡ answer_text e Stat
+numbers_are {W} {state} {core} e census marks engine counted marked =
+    ap (λ (c : Census). stat_text c marks) counted ∙ ap (λ (k : Marks). stat_text (census_of e.machine) k) marked
+    ∙ ap (λ (f : ℕ). stat_text (census_of e.machine) (marks_at f (durable_of core))) engine.frames
+    ∙ ap (λ (d : ℕ). stat_text (census_of e.machine) (marks_at e.frames d)) engine.durable
+
+-- ---- a step's reply is told
+
+-- the core works for a machine still, wherever it did before its answer was told
+abbrev pub WorksOn : {W : Type 0} → (W → State) → (mid new : Kept W) → Type 0
+WorksOn state mid new = (m : Machine) → WorksFor state mid m → WorksFor state new m
+
+engine_on : {W : Type 0} {state : W → State} {e : Engine} {mid new : Kept W} → IsEngine state mid e → WorksOn state mid new → new ≡ record mid { site = new.site } → IsEngine state new e
+engine_on {W} {state} {e} engine on rest = record { works = on e.machine engine.works; frames = ap frames_of rest ∙ engine.frames; durable = ap durable_of rest ∙ engine.durable }
+
+made_on : {W : Type 0} {state : W → State} {e : Engine} {request : Request} {mid new : Kept W} → WasMade state e request mid → WorksOn state mid new → new ≡ record mid { site = new.site } → WasMade state e request new
+made_on made on rest = record { engine = engine_on made.engine on rest; numbered = made.numbered }
+
+-- what was asked for was done, and its answer is told
+told_right : {W : Type 0} (state : W → State) (counts : W → Counts) (e : Engine) (request : Request) (old mid new : Kept W) → WasMade state e request new → (state mid.site).now.told ≡ (state old.site).now.told → (result : Result (Unit {0}) Status)
+    → TellsText (answer_text e request) (state mid.site) (state new.site) result → IfErr result (HasTellEnd (counts mid.site) (counts new.site)) → TurnsRight state counts e request old new result
+told_right state counts e request old mid new made before (Ok done) spoken ends = record {
+  made = made;
+  told = ap (λ (s : State). s.now.told) spoken ∙ ap (λ (b : List ℕ). b ++ answer_text e request) before;
+}
+told_right state counts e request old mid new made before (Err OutputFault) spoken ends = (
+  spoken.0,
+  record {
+    made = made;
+    told = ap (λ (s : State). s.now.told) spoken.1 ∙ ap (λ (b : List ℕ). b ++ take spoken.0 (answer_text e request)) before;
+  },
+)
+told_right state counts e request old mid new made before (Err (LogFull n)) same ends = absurd ends
+told_right state counts e request old mid new made before (Err OutOfMemory) same ends = record { told = ap (λ (s : State). s.now.told) same ∙ before; left = inr (inl made) }
+told_right state counts e request old mid new made before (Err _) same ends = absurd ends
+
+-- the reply's text is the machine's
+step_text : {W : Type 0} {state : W → State} {e : Engine} {step : Step} {old mid : Kept W} {reply : Reply} (a b : State) (result : Result (Unit {0}) Status) → Replied state e step old mid reply → TellsText (reply_text reply) a b result
+    → TellsText (answer_text e (Ask step)) a b result
+step_text {W} {state} {e} {step} {old} {mid} {reply} a b result replied tells = subst (λ (r : Reply). TellsText (reply_text r) a b result) replied.reply_is tells
+
+pub replied_right : {W : Type 0} {state : W → State} (counts : W → Counts) {e : Engine} {step : Step} {old mid : Kept W} (new : Kept W) {reply : Reply} → Replied state e step old mid reply → WorksOn state mid new → new ≡ record mid { site = new.site }
+    → (result : Result (Unit {0}) Status) → TellsText (reply_text reply) (state mid.site) (state new.site) result → IfErr result (HasTellEnd (counts mid.site) (counts new.site)) → TurnsRight state counts e (Ask step) old new result
+replied_right {W} {state} counts {e} {step} {old} {mid} new replied on rest result tells ends =
+    told_right state counts e (Ask step) old mid new (made_on replied.made on rest) replied.told result (step_text (state mid.site) (state new.site) result replied tells) ends
+
+pub replied_moments : {W : Type 0} {state : W → State} {e : Engine} {step : Step} {old mid : Kept W} (new : Kept W) {reply : Reply} → Replied state e step old mid reply → StepStands state e.machine step old mid
+    → (result : Result (Unit {0}) Status) → TellsText (reply_text reply) (state mid.site) (state new.site) result → KeepsWithin e (Ask step) (state old.site) (state new.site)
+replied_moments {W} {state} {e} {step} {old} {mid} new replied stands result tells = λ told acks requests.
+    let g = goes e (Ask step) requests in
+    then_moments (step_moments g acks stands) (answer_moments g acks replied.told (stands_whole replied.made.engine.works) result (step_text (state mid.site) (state new.site) result replied tells))
+
+-- a step that was given up
+pub refused_moments : {W : Type 0} (state : W → State) (e : Engine) (step : Step) (old new : Kept W) → StepStands state e.machine step old new → KeepsWithin e (Ask step) (state old.site) (state new.site)
+refused_moments state e step old new stands = λ told acks requests. step_moments (goes e (Ask step) requests) acks stands
+
+pub step_ends : (status : Status) → HasStepEnd status → HasAnswerEnd status
+step_ends (Damaged file place) ends = tt
+step_ends (DiskFault fault) ends = tt
+step_ends (LogFull n) ends = tt
+step_ends OutOfMemory ends = tt
+step_ends _ ends = absurd ends
+
+-- ---- the numbers are told
+
+pub numbers_right : {W : Type 0} {state : W → State} (counts : W → Counts) {e : Engine} {old : Kept W} (new : Kept W) → IsEngine state old e → WorksOn state old new → new ≡ record old { site = new.site }
+    → (result : Result (Unit {0}) Status) → TellsText (answer_text e Stat) (state old.site) (state new.site) result → IfErr result (HasTellEnd (counts old.site) (counts new.site)) → TurnsRight state counts e Stat old new result
+numbers_right {W} {state} counts {e} {old} new engine on rest result tells ends =
+    told_right state counts e Stat old old new (record { engine = engine_on engine on rest; numbered = inl refl }) refl result tells ends
+
+pub numbers_moments : {W : Type 0} {state : W → State} {e : Engine} {old : Kept W} (new : Kept W) → IsEngine state old e → (result : Result (Unit {0}) Status) → TellsText (answer_text e Stat) (state old.site) (state new.site) result
+    → KeepsWithin e Stat (state old.site) (state new.site)
+numbers_moments {W} {state} {e} {old} new engine result tells = λ told acks requests. answer_moments (goes e Stat requests) acks refl (stands_whole engine.works) result tells
+
+-- ---- no file but the log's is changed
+
+pub others_on : {a b c : State} → EachMoment (LeavesOthers a.now) a b → EachMoment (LeavesOthers b.now) b c → EachMoment (LeavesOthers a.now) a c
+others_on {a} {b} {c} first later =
+    then_moments first (weaker_moments (λ moment leaves. λ (name : FileName) other. leaves name other ∙ by_last (last_moment first) name other) later)
+  where
+    by_last : (b.now ≡ a.now) ⊎ LeavesOthers a.now b.now → LeavesOthers a.now b.now
+    by_last (inl same) = λ name other. ap (λ (m : Moment). m.files name) same
+    by_last (inr leaves) = leaves
+
+pub told_others : (text : List ℕ) {a b : State} (result : Result (Unit {0}) Status) → TellsText text a b result → EachMoment (LeavesOthers a.now) a b
+told_others text {a} {b} (Ok done) e = spoke_moments text text e (λ name other. refl) (λ name other. refl)
+told_others text {a} {b} (Err OutputFault) e = spoke_moments text (take e.0 text) e.1 (λ name other. refl) (λ name other. refl)
+told_others text (Err _) e = same_moment e
 
 -- ---- why
-
-pub refused_ends : {W : Type 0} {tells : Type 0} {state : W → State} {counts : W → Counts} {call : Call} {old new : Kept W} (error : CoreError) → Refuses tells state counts call old new error → HasAnswerEnd (status_of error)
-refused_ends CoreShort refuses = tt
-refused_ends (FaultOf fault) refuses = tt
-refused_ends (FullAt n) refuses = tt
-refused_ends (DamagedAt file place) refuses = tt
-refused_ends (Broken SiteShort) refuses = tt
-refused_ends (Broken (SiteFault fault)) refuses = tt
 
 no_tell : (call : Call) → MayMeet call Tell → ⊥
 no_tell Commit (inl is) = cc is

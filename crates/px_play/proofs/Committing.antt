@@ -1,19 +1,27 @@
--- Which calls make a commit, and what they reply.
+-- Which requests make a commit, and what they are answered.
 use Rattle.std.proofs.Common.{◌≡◌, ◌⊎◌, ℕ, ◌+◌, ◌==◌, not, leb, Bool, true, false, cond, List, [], ◌∷◌, length, Option, Some, None, option_map, is_some, is_none, refl, ap, ◌∙◌, inl, inr, arith}
+use Rattle.std.specs.Prelude.{nat_lt, slice_get}
 use Rattle.std.proofs.lemmas.Bool.{cases_Bool}
 use Rattle.px_model.specs.declared.limits.TheConstants.{MOST_WRITES, MOST_TICKETS, MOST_VARIATIONS}
 use Rattle.px_model.specs.declared.machine.Ended.{Ended}
+use Rattle.px_model.specs.declared.machine.Flat.{Flat}
 use Rattle.px_model.specs.declared.machine.Open.{Open}
 use Rattle.px_model.specs.declared.row.Row.{Row}
 use Rattle.px_model.specs.Rows.{row_at}
-use Rattle.px_model.specs.Machine.{Machine, commits, view}
+use Rattle.px_model.specs.Machine.{Machine, commits, flat, horizon, view}
 use Rattle.px_calls.specs.declared.call.Call.{Call}
 use Rattle.px_calls.specs.declared.call.Call.TheVariants.{Begin, Get, Hold, Fetch, Find, Scan, Insert, Update, Delete, Commit, Rollback}
 use Rattle.px_calls.specs.declared.reply.Reply.{Reply}
-use Rattle.px_calls.specs.declared.reply.Reply.TheVariants.{Began, Held, Rows, Inserted, Updated, Deleted, Committed, EndedEmpty, OpenAlready, LimitBegins, NoTable, LimitKey, LimitBody, LimitWrites, LimitTickets, Conflict, Duplicate, Missing, TableFull}
+use Rattle.px_calls.specs.declared.reply.Reply.TheVariants.{Began, Held, Rows, Inserted, Updated, Deleted, Committed, EndedEmpty, OpenAlready, LimitBegins, NoTable, LimitKey, LimitBody, LimitWrites, LimitTickets, Conflict, Duplicate, Missing, TableFull, Swept, Idle}
 use Rattle.px_calls.specs.Steps.{open_of, if_open, row_reply, ticket_reply, unless_refused, write_refusal, begins_spent, has_table, fits_key, fits_body, is_full, kept_row, rows_of_table, rows_with_tag, reply_of, state_after, entries_of}
+use Rattle.px_calls.specs.Histories.{by, sweep}
+use Rattle.px_calls.specs.Sweeps.{due_below, sweep_reply, swept_state}
+use Rattle.px_calls.specs.Texts.{reply_text}
 use Rattle.px_logged.proofs.Grown.{committing, call_grows, grown_commits}
-use Rattle.px_play.proofs.Replies.{tells_commit}
+use Rattle.px_engine.specs.Counts.{census_of, marks_at}
+use Rattle.px_engine.specs.Engine.{Engine}
+use Rattle.px_engine.specs.Requests.{Request, Ask, Stat, after_request, answer_text}
+use Rattle.px_play.proofs.Replies.{IsQuiet, reply_quiet, stat_quiet, tells_commit}
 
 -- ---- replies that tell no commit
 
@@ -125,3 +133,32 @@ replies_commit m session (Delete table key) =
     (none_open (open_of m session) _ (λ x. none_write m session x table key true _ (done_none (is_none (row_at (table, key) (view m x))) (is_full m table) Missing Deleted refl refl)))
 replies_commit m session Commit = commit_call m session (open_of m session) refl
 replies_commit m session Rollback = other_call m session Rollback refl (none_open (open_of m session) _ (λ x. refl))
+
+-- ---- each request
+
+sweep_none : (m : Machine) → tells_commit (sweep_reply m) ≡ false
+unfolding sweep_reply
+sweep_none m = by_next (slice_get (flat m) m.swept)
+  where
+    by_due : (due : Bool) (n : ℕ) → tells_commit (cond due (Swept n) Idle) ≡ false
+    by_due true n = refl
+    by_due false n = refl
+
+    by_next : (next : Option Flat) → tells_commit (due_below (horizon m) next) ≡ false
+    by_next None = refl
+    by_next (Some w) = by_due (nat_lt w.place (horizon m)) w.number
+
+-- the text says that one commit was made, or it says nothing of one and none was
+abbrev pub SaysCommit : (m next : Machine) → (text : List ℕ) → Type 0
+SaysCommit m next text =
+    ((text ≡ reply_text (Committed (commits m + 1))) × (commits next ≡ commits m + 1)) ⊎ (IsQuiet text × (commits next ≡ commits m))
+
+pub says_commit : (e : Engine) (request : Request) → SaysCommit e.machine (after_request e request).machine (answer_text e request)
+unfolding swept_state commits
+says_commit e (Ask (by session call)) =
+    elim (replies_commit e.machine session call) [
+      | inl commit ↦ inl (ap reply_text commit.0, commit.1)
+      | inr other ↦ inr (reply_quiet (reply_of e.machine session call) other.0, other.1)
+    ]
+says_commit e (Ask sweep) = inr (reply_quiet (sweep_reply e.machine) (sweep_none e.machine), refl)
+says_commit e Stat = inr (stat_quiet (census_of e.machine) (marks_at e.frames e.durable), refl)

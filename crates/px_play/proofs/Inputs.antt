@@ -3,17 +3,17 @@ use Rattle.std.proofs.Common.{◌≡◌, ◌≢◌, ◌⊎◌, ℕ, ◌+◌, ◌
 use Rattle.std.specs.Prelude.{slice_get}
 use Rattle.std.proofs.lemmas.Bool.{true≢false}
 use Rattle.std.proofs.lemmas.List.{append-nil, nil_from_length}
-use Rattle.px_calls.specs.declared.call.Call.{Call}
+use Rattle.px_engine.specs.Requests.{Request}
 use Rattle.px_calls.specs.declared.status.Status.TheVariants.{Done, BadLine, SourceFault, OutOfMemory, TooLong}
 use Rattle.px_script.specs.declared.lines.NextLine.TheVariants.{Line, End, Fault as ReadFault, TooLong as TooMuch, LongLine}
-use Rattle.px_script.specs.Grammar.{command_line, longest_line, calls_of}
+use Rattle.px_script.specs.Grammar.{command_line, longest_line, requests_of}
 use Rattle.px_script.specs.Lines.{complete_lines, open_line, last_line, lines_at_end}
 use Rattle.px_script.proofs.LineFeeds.{lines-last}
 use Rattle.px_script.specs.Progress.{Progress, HasCause, IsOpen, IsOverlong as IsOverlongHeld, Moves, TakesLine, ahead, longest_input, longest_piece, nothing_read}
 use Rattle.px_play.specs.Input.{AreCommands, EndsAt, IsBetween, IsFirstBad, TakesLittle, script_of}
 use Rattle.px_play.specs.Reading.{IsAsked, IsOver, IsRead, MayEnd}
 use Rattle.px_play.proofs.Parts.{lines_behind, open_behind, at_end_whole, at_end_behind, open_ended, open_nil, at_end_nil, line_ended, open_long, open_single, first_long}
-use Rattle.px_play.proofs.Calls.{calls_nil, calls_behind, commands_more, first_bad, call_at, long_none}
+use Rattle.px_play.proofs.Asked.{requests_nil, requests_behind, commands_more, first_bad, request_at, long_none}
 
 -- ---- what a look at the input changed
 
@@ -264,7 +264,7 @@ hands_lines : {input : List ℕ} {new : Progress} {left_now handed bytes : List 
 hands_lines {input} {new} {left_now} {handed} {bytes} h = at_end_behind handed bytes h.before ∙ ap (λ (found : List (List ℕ)). lines_at_end handed ++ found) h.takes.at_end
 
 -- where the line is a command, the next one may be looked for
-handed_on : {input : List ℕ} {new : Progress} {left_now handed bytes : List ℕ} {lines : ℕ} → Hands input new left_now handed bytes lines → (c : ℕ × Call) → command_line new.line ≡ Some c → IsRead input new left_now (lines + 1)
+handed_on : {input : List ℕ} {new : Progress} {left_now handed bytes : List ℕ} {lines : ℕ} → Hands input new left_now handed bytes lines → (c : Request) → command_line new.line ≡ Some c → IsRead input new left_now (lines + 1)
 handed_on {input} {new} {left_now} {handed} {bytes} {lines} h c is = record {
   handed = handed ++ bytes;
   in_order = h.in_order;
@@ -283,21 +283,21 @@ handed_on {input} {new} {left_now} {handed} {bytes} {lines} h c is = record {
     by_cut (inl cut) = inl (open_behind handed bytes h.before ∙ cut)
     by_cut (inr over) = inr over
 
--- and it is the script's next call
-handed_call : {input : List ℕ} {new : Progress} {left_now handed bytes : List ℕ} {lines : ℕ} → Hands input new left_now handed bytes lines → (c : ℕ × Call) → command_line new.line ≡ Some c → slice_get (script_of input) lines ≡ Some c
+-- and it is the script's next request
+handed_request : {input : List ℕ} {new : Progress} {left_now handed bytes : List ℕ} {lines : ℕ} → Hands input new left_now handed bytes lines → (c : Request) → command_line new.line ≡ Some c → slice_get (script_of input) lines ≡ Some c
 unfolding script_of
-handed_call {input} {new} {left_now} {handed} {bytes} {lines} h c is = by_cut h.takes.cut
+handed_request {input} {new} {left_now} {handed} {bytes} {lines} h c is = by_cut h.takes.cut
   where
     rest : List ℕ
     rest = ahead new left_now
 
-    from_lines : (others : List (List ℕ)) → lines_at_end input ≡ lines_at_end handed ++ new.line ∷ others → slice_get (calls_of (lines_at_end input)) lines ≡ Some c
+    from_lines : (others : List (List ℕ)) → lines_at_end input ≡ lines_at_end handed ++ new.line ∷ others → slice_get (requests_of (lines_at_end input)) lines ≡ Some c
     from_lines others e =
-        ap (λ (found : List (List ℕ)). slice_get (calls_of found) lines) e
-        ∙ ap (λ (n : ℕ). slice_get (calls_of (lines_at_end handed ++ new.line ∷ others)) n) (sym h.count)
-        ∙ call_at (lines_at_end handed) new.line others c h.commands is
+        ap (λ (found : List (List ℕ)). slice_get (requests_of found) lines) e
+        ∙ ap (λ (n : ℕ). slice_get (requests_of (lines_at_end handed ++ new.line ∷ others)) n) (sym h.count)
+        ∙ request_at (lines_at_end handed) new.line others c h.commands is
 
-    by_cut : (open_line bytes ≡ []) ⊎ IsOver new left_now → slice_get (calls_of (lines_at_end input)) lines ≡ Some c
+    by_cut : (open_line bytes ≡ []) ⊎ IsOver new left_now → slice_get (requests_of (lines_at_end input)) lines ≡ Some c
     by_cut (inl cut) =
         from_lines (lines_at_end rest)
         (ap lines_at_end h.in_order ∙ at_end_behind (handed ++ bytes) rest (open_behind handed bytes h.before ∙ cut)
@@ -387,7 +387,7 @@ line_asked {input} {old} {new} {left} {left_now} {lines} read looks cause moves 
     let r = reaches h in
     let taken : List ℕ = read.handed ++ took_line.0 ++ new.held in
     record {
-      command = λ c is. (handed_call h c is, handed_on h c is);
+      command = λ c is. (handed_request h c is, handed_on h c is);
       bad = λ none. record { taken = taken; in_order = r.in_order; within = r.within; fits = r.bad none; read_before = r.read_before; counts = refl; little = r.little };
       damage = λ file place. record { taken = taken; in_order = r.in_order; within = r.within; fits = tt; read_before = r.read_before; counts = tt; little = r.little };
       disk = λ fault. record { taken = taken; in_order = r.in_order; within = r.within; fits = tt; read_before = r.read_before; counts = tt; little = r.little };
@@ -403,7 +403,7 @@ nothing_handed input = record {
   handed = [];
   in_order = refl;
   count = ap length at_end_nil;
-  commands = ap (λ (lines : List (List ℕ)). length (calls_of lines)) at_end_nil ∙ ap length calls_nil ∙ ap length (sym at_end_nil);
+  commands = ap (λ (lines : List (List ℕ)). length (requests_of lines)) at_end_nil ∙ ap length requests_nil ∙ ap length (sym at_end_nil);
   cut = inl open_nil;
   long = omega arith;
   counted = omega arith;
@@ -418,24 +418,24 @@ pub few_lines : {input : List ℕ} {progress : Progress} {left : List ℕ} {line
 few_lines {input} {progress} {left} {lines} read =
     omega (arith, read.long, read.within, read.counted, ap length read.in_order, length-append read.handed (ahead progress left), length-append progress.held left)
 
--- nor more lines than the script has calls
 -- there are no more lines than bytes that may be read
 pub lines_below : {input : List ℕ} {progress : Progress} {left : List ℕ} {lines : ℕ} → IsRead input progress left lines → lines ≤ longest_input
 lines_below {input} {progress} {left} read =
     omega (arith, read.long, ap length read.in_order, length-append read.handed (ahead progress left), length-append progress.held left, read.counted, read.within)
 
-pub few_calls : {input : List ℕ} {progress : Progress} {left : List ℕ} {lines : ℕ} → IsRead input progress left lines → lines ≤ length (script_of input)
+-- nor more lines than the script has requests
+pub few_requests : {input : List ℕ} {progress : Progress} {left : List ℕ} {lines : ℕ} → IsRead input progress left lines → lines ≤ length (script_of input)
 unfolding script_of
-few_calls {input} {progress} {left} {lines} read = by_cut read.cut
+few_requests {input} {progress} {left} {lines} read = by_cut read.cut
   where
     rest : List ℕ
     rest = ahead progress left
 
-    by_cut : (open_line read.handed ≡ []) ⊎ IsOver progress left → lines ≤ length (calls_of (lines_at_end input))
+    by_cut : (open_line read.handed ≡ []) ⊎ IsOver progress left → lines ≤ length (requests_of (lines_at_end input))
     by_cut (inl cut) =
-        let parts : calls_of (lines_at_end input) ≡ calls_of (lines_at_end read.handed) ++ calls_of (lines_at_end rest) =
-        ap (λ (b : List ℕ). calls_of (lines_at_end b)) read.in_order ∙ ap calls_of (at_end_behind read.handed rest cut) ∙ calls_behind (lines_at_end read.handed) (lines_at_end rest) read.commands in
-        omega (arith, read.count, read.commands, ap length parts, length-append (calls_of (lines_at_end read.handed)) (calls_of (lines_at_end rest)))
+        let parts : requests_of (lines_at_end input) ≡ requests_of (lines_at_end read.handed) ++ requests_of (lines_at_end rest) =
+        ap (λ (b : List ℕ). requests_of (lines_at_end b)) read.in_order ∙ ap requests_of (at_end_behind read.handed rest cut) ∙ requests_behind (lines_at_end read.handed) (lines_at_end rest) read.commands in
+        omega (arith, read.count, read.commands, ap length parts, length-append (requests_of (lines_at_end read.handed)) (requests_of (lines_at_end rest)))
     by_cut (inr over) =
         let all : input ≡ read.handed = read.in_order ∙ ap (λ (b : List ℕ). read.handed ++ b) over.nothing_ahead ∙ append-nil read.handed in
-        omega (arith, read.count, read.commands, ap (λ (b : List ℕ). length (calls_of (lines_at_end b))) all)
+        omega (arith, read.count, read.commands, ap (λ (b : List ℕ). length (requests_of (lines_at_end b))) all)

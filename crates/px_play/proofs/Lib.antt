@@ -1,6 +1,6 @@
 pub mod Acking
 pub mod Answering
-pub mod Calls
+pub mod Asked
 pub mod Committing
 pub mod Held
 pub mod Inputs

@@ -11,6 +11,9 @@ use Rattle.px_model.specs.declared.row.Row.{Row}
 use Rattle.px_calls.specs.declared.reply.Reply.{Reply}
 use Rattle.px_calls.specs.declared.reply.Reply.TheVariants.{Began, RowIs, NoRow, Held, Rows, Inserted, Updated, Deleted, Committed, EndedEmpty, RolledBack, NoTransaction, OpenAlready, LimitBegins, NoTable, LimitKey, LimitBody, LimitWrites, LimitTickets, NoTicket, Conflict, Duplicate, Missing, TableFull, Applied, Swept, Moved, Dropped, Noted, Synced, Saved, Trimmed, Idle}
 use Rattle.px_calls.specs.Texts.{line, numbered, body_text, tag_and_body, found_line, reply_text}
+use Rattle.px_engine.specs.declared.census.Census.{Census}
+use Rattle.px_engine.specs.declared.census.Marks.{Marks}
+use Rattle.px_engine.specs.Texts.{census_words, marks_words, stat_text}
 use Rattle.px_script.specs.Lines.{complete_after, complete_lines, open_line}
 use Rattle.px_script.specs.Words.{number_of}
 use Rattle.px_script.proofs.Numbers.{number_of-some}
@@ -95,6 +98,31 @@ rows_quiet : (rows : List Row) → IsQuiet (flat_map found_line rows)
 rows_quiet [] = nothing_quiet
 rows_quiet (row ∷ rows) = text_both (found_line row) (flat_map found_line rows) (found_quiet row) (rows_quiet rows)
 
+numbers_one : (front word : List ℕ) (n : ℕ) → no_feed front ≡ true → no_feed word ≡ true → no_feed (front ++ numbered word n) ≡ true
+numbers_one front word n first one = no_feed_both front (numbered word n) first (numbered_one word n one)
+
+census_one : (census : Census) → no_feed (census_words census) ≡ true
+census_one census =
+    let commits : List ℕ = numbered (codes "commits") census.commits in
+    let opens : List ℕ = commits ++ numbered (codes " open") census.opens in
+    let unswept : List ℕ = opens ++ numbered (codes " unswept") census.unswept in
+    let variations : List ℕ = unswept ++ numbered (codes " variations") census.variations in
+    let live : List ℕ = variations ++ numbered (codes " live") census.live in
+    numbers_one live (codes " held") census.held
+    (numbers_one variations (codes " live") census.live
+    (numbers_one unswept (codes " variations") census.variations
+    (numbers_one opens (codes " unswept") census.unswept
+    (numbers_one commits (codes " open") census.opens (numbered_one (codes "commits") census.commits refl) refl) refl) refl) refl) refl
+
+marks_one : (marks : Marks) → no_feed (marks_words marks) ≡ true
+marks_one marks =
+    let frames : List ℕ = numbered (codes " frames") marks.frames in
+    let durable : List ℕ = frames ++ numbered (codes " durable") marks.durable in
+    let applied : List ℕ = durable ++ numbered (codes " applied") marks.applied in
+    numbers_one applied (codes " redo") marks.redo
+    (numbers_one durable (codes " applied") marks.applied
+    (numbers_one frames (codes " durable") marks.durable (numbered_one (codes " frames") marks.frames refl) refl) refl) refl
+
 abbrev pub tells_commit : Reply → Bool
 tells_commit (Committed n) = true
 tells_commit _ = false
@@ -136,6 +164,13 @@ reply_quiet (Synced file) other = line_quiet (codes "synced " ++ file_text file)
 reply_quiet (Saved s) other = line_quiet (numbered (codes "saved") s) (numbered_one (codes "saved") s refl) refl
 reply_quiet (Trimmed k) other = line_quiet (numbered (codes "trimmed") k) (numbered_one (codes "trimmed") k refl) refl
 reply_quiet Idle other = line_quiet (codes "idle") refl refl
+
+-- the line of the numbers
+pub stat_quiet : (census : Census) (marks : Marks) → IsQuiet (stat_text census marks)
+unfolding stat_text
+stat_quiet census marks =
+    line_quiet (codes "stat " ++ census_words census ++ marks_words marks)
+    (no_feed_both (codes "stat " ++ census_words census) (marks_words marks) (no_feed_both (codes "stat ") (census_words census) refl (census_one census)) (marks_one marks)) refl
 
 -- ---- what is acknowledged behind whole lines
 
@@ -190,7 +225,7 @@ pub kind_of : (reply : Reply) → (tells_commit reply ≡ false) ⊎ ((n : ℕ) 
 kind_of (Committed n) = inr (n, refl)
 kind_of _ = inl refl
 
-committed_whole : (n : ℕ) → open_line (reply_text (Committed n)) ≡ []
+pub committed_whole : (n : ℕ) → open_line (reply_text (Committed n)) ≡ []
 unfolding reply_text
 committed_whole n = open_ended (committed_words n)
 

@@ -1,23 +1,23 @@
 -- How the input was read where a run ends.
 use Rattle.std.specs.Prelude.{◌≡◌, ◌⊎◌, ℕ, ◌+◌, ◌<◌, ◌≤◌, List, [], ◌++◌, length}
-use Rattle.px_calls.specs.declared.call.Call.{Call}
+use Rattle.px_engine.specs.Requests.{Request}
 use Rattle.px_calls.specs.declared.status.Status.{Status}
 use Rattle.px_calls.specs.declared.status.Status.TheVariants.{Done, BadLine, SourceFault, TooLong}
-use Rattle.px_script.specs.Grammar.{calls_of, longest_line}
+use Rattle.px_script.specs.Grammar.{requests_of, longest_line}
 use Rattle.px_script.specs.Lines.{complete_lines, open_line, lines_at_end}
 use Rattle.px_script.specs.Progress.{longest_input, longest_piece}
 
--- the calls of an input, up to its first line that is no command
-unfoldable pub script_of : List ℕ → List (ℕ × Call)
-script_of input = calls_of (lines_at_end input)
+-- what the lines of an input ask for, up to the first one that is no command
+unfoldable pub script_of : List ℕ → List Request
+script_of input = requests_of (lines_at_end input)
 
 abbrev pub AreCommands : List (List ℕ) → Type 0
-AreCommands lines = length (calls_of lines) ≡ length lines
+AreCommands lines = length (requests_of lines) ≡ length lines
 
 -- line k, from 1, is the first that is no command
 pub record IsFirstBad (lines : List (List ℕ)) (k : ℕ) : Type 0 where
-  pub there : length (calls_of lines) < length lines
-  pub number : k ≡ length (calls_of lines) + 1
+  pub there : length (requests_of lines) < length lines
+  pub number : k ≡ length (requests_of lines) + 1
 
 -- the end of the input was answered
 pub record IsAtEnd (taken left : List ℕ) : Type 0 where

@@ -1,7 +1,9 @@
 pub mod Acknowledged
 pub mod Causes
+pub mod Engine
 pub mod Input
 pub mod Playing
 pub mod Reading
+pub mod Serving
 pub mod Told
 pub mod Turns

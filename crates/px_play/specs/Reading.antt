@@ -3,7 +3,7 @@ use Rattle.std.specs.Prelude.{◌≡◌, ◌⊎◌, ⊤, ℕ, ◌+◌, ◌<◌, 
 use Rattle.px_site.specs.declared.error.Fault.{Fault}
 use Rattle.px_site.specs.declared.name.FileName.{FileName}
 use Rattle.px_source.specs.Source.{Rose}
-use Rattle.px_calls.specs.declared.call.Call.{Call}
+use Rattle.px_engine.specs.Requests.{Request}
 use Rattle.px_calls.specs.declared.status.Status.{Status}
 use Rattle.px_calls.specs.declared.status.Status.TheVariants.{Done, BadLine, SourceFault, OutOfMemory, TooLong, Damaged, DiskFault, OutputFault, LogFull}
 use Rattle.px_script.specs.Grammar.{command_line}
@@ -50,7 +50,7 @@ pub record MayEnd (input left : List ℕ) (lines : ℕ) (status : Status) : Type
 
 -- a line was handed out, and is to be answered
 pub record IsAsked (input : List ℕ) (progress : Progress) (left : List ℕ) (lines : ℕ) : Type 0 where
-  pub command : (c : ℕ × Call) → command_line progress.line ≡ Some c → (slice_get (script_of input) lines ≡ Some c) × IsRead input progress left (lines + 1)
+  pub command : (request : Request) → command_line progress.line ≡ Some request → (slice_get (script_of input) lines ≡ Some request) × IsRead input progress left (lines + 1)
   pub bad : command_line progress.line ≡ None → MayEnd input left lines (BadLine (lines + 1))
   pub damage : (file : FileName) (place : ℕ) → MayEnd input left lines (Damaged file place)
   pub disk : (fault : Fault) → MayEnd input left lines (DiskFault fault)

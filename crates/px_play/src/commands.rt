@@ -1,64 +1,63 @@
-// The call that a line asks for.
+// What a line asks for.
 ghost use Rattle.std.specs.Prelude.{◌≡◌};
-ghost use Rattle.px_script.specs.Grammar.{built_call, is_built};
-ghost use Rattle.px_play.specs.Turns.{ReadsCommand};
+ghost use Rattle.std.specs.Option.{option_map};
+ghost use Rattle.px_script.specs.Grammar.{request_of};
+ghost use Rattle.px_play.specs.Turns.{ReadsCommand, request_asked};
 
-use px_calls::{Call, Event, Status};
+use px_calls::{Activity, Call, Event, Status};
 use px_model::Session;
 use px_script::{Line, parse_line};
 use std::alloc::Global;
 
-/// The session and the call of a line that a run answers. `BadLine` with this number where it is no command.
+/// What a line asks for that a run answers.
+pub(crate) enum Asked {
+    /// A session's call.
+    Call(Session, Call),
+    /// A step of the sweeper.
+    Sweep,
+    /// The numbers of the store.
+    Stat,
+}
+
+/// What a line asks for. `BadLine` with this number where it is no command.
 #[tactic(auto, unfolding(px_script::specs::Grammar::command_line))]
-pub(crate) fn command(alloc: Global, line: &[u8], number: u64) -> Result<(Session, Call), Status>
+pub(crate) fn command(alloc: Global, line: &[u8], number: u64) -> Result<Asked, Status>
     ensures { ReadsCommand line.now number result }
 {
     let Ok(line) = parse_line(alloc, line) else {
         return Err(Status::OutOfMemory);
     };
     match line {
-        Some(line) => built_call(line).ok_or(Status::BadLine(number)),
+        Some(line) => asked_by(line).ok_or(Status::BadLine(number)),
         None => Err(Status::BadLine(number)),
     }
 }
 
-/// A session's call that is built today.
-fn built_call(line: Line) -> Option<(Session, Call)>
-    ensures { result ≡ built_call line }
+/// What is built today of what a line may ask for.
+fn asked_by(line: Line) -> Option<Asked>
+    ensures { option_map request_asked result ≡ request_of line }
 {
     match line {
-        Line::Step(event) => session_call(event),
-        Line::Peek { .. } | Line::Drain | Line::Stat => None,
+        Line::Step(event) => step_of(event),
+        Line::Stat => Some(Asked::Stat),
+        Line::Peek { .. } | Line::Drain => None,
     }
 }
 
-fn session_call(event: Event) -> Option<(Session, Call)>
-    ensures { result ≡ built_call (Line.Step event) }
+fn step_of(event: Event) -> Option<Asked>
+    ensures { option_map request_asked result ≡ request_of (Line.Step event) }
 {
     match event {
-        Event::Session(session, call) => {
-            if is_built(&call) {
-                Some((session, call))
-            } else {
-                None
-            }
-        }
-        Event::Activity(_) => None,
+        Event::Session(session, call) => Some(Asked::Call(session, call)),
+        Event::Activity(activity) => activity_step(activity),
     }
 }
 
-/// Whether a run answers this call today.
-fn is_built(call: &Call) -> bool
-    ensures { result ≡ is_built call.now }
+fn activity_step(activity: Activity) -> Option<Asked>
+    ensures { option_map request_asked result ≡ request_of (Line.Step (Event.Activity activity)) }
 {
-    match call {
-        Call::Begin
-        | Call::Get { .. }
-        | Call::Insert { .. }
-        | Call::Update { .. }
-        | Call::Delete { .. }
-        | Call::Commit
-        | Call::Rollback => true,
-        Call::Hold { .. } | Call::Fetch { .. } | Call::Find { .. } | Call::Scan { .. } => false,
+    match activity {
+        Activity::Sweeper => Some(Asked::Sweep),
+        Activity::Writer | Activity::Compactor | Activity::Checkpointer => None,
     }
 }

@@ -2,10 +2,13 @@ ghost use Rattle.std.specs.Prelude.{◌≡◌, ◌≤◌, ◌++◌, ℕ, List, N
 ghost use Rattle.px_site.specs.Cause.{NoneFell};
 ghost use Rattle.px_site.specs.State.{EachMoment};
 ghost use Rattle.px_model.specs.Machine.{Machine, commits};
-ghost use Rattle.px_calls.specs.Histories.{state_after_all};
+ghost use Rattle.px_engine.specs.Engine.{Engine};
+ghost use Rattle.px_engine.specs.Requests.{after_requests};
+ghost use Rattle.px_standing.specs.Images.{LeavesOthers};
 ghost use Rattle.px_core.specs.Working.{WorksFor};
 ghost use Rattle.px_play.specs.Acknowledged.{KeepsAcknowledged, TellsWhole, acknowledged};
 ghost use Rattle.px_play.specs.Causes.{HasPlayCause, IsUndamaged, faults_by};
+ghost use Rattle.px_play.specs.Engine.{IsEngine};
 ghost use Rattle.px_play.specs.Input.{EndsInput, script_of};
 ghost use Rattle.px_play.specs.Playing.{PlaysRight};
 
@@ -18,7 +21,7 @@ use px_site::Site;
 use px_source::Source;
 use std::alloc::Global;
 
-/// Plays the script of an input: answers its lines in order, and tells the reply to each before the next one is looked for.
+/// Plays the script of an input: answers its lines in order, and tells the answer to each before the next one is looked for.
 /// The core is one that keeps no error. The first error ends it:
 ///
 /// - `Done`: every line to the input's end was answered.
@@ -26,13 +29,13 @@ use std::alloc::Global;
 /// - `TooLong`: as many bytes were read as a script may have, and no read answered the end.
 /// - `SourceFault`: a read of the source failed.
 /// - `DiskFault`: a call on a file failed; never `Fault::Tell`.
-/// - `OutputFault`: a reply couldn't be told; a front of it may be.
-/// - `LogFull`: a call had a frame to write for which the log has no number left.
-/// - `OutOfMemory`: a call, a line or a reply's text wanted memory.
-/// - `Damaged`: a call met a cell that no store may have there. Never on a site that tells: the opening has looked at them all.
+/// - `OutputFault`: an answer couldn't be told; a front of it may be.
+/// - `LogFull`: a step had a frame to write for which the log has no number left.
+/// - `OutOfMemory`: a step, a line or an answer's text wanted memory.
+/// - `Damaged`: a step met a cell that no store may have there. Never on a site that tells: the opening has looked at them all.
 ///
 /// No other status comes. After `DiskFault` the core may be broken, and after `OutOfMemory` where the site wanted memory
-/// within a commit. Else it works on: at `OutputFault` the last call was made, and its reply told in part.
+/// within a commit. Else it works on: at `OutputFault` the last step was made, and its answer told in part.
 pub fn play<W: Site, S: Source>(alloc: Global, core: &mut Core<W>, source: &mut S) -> Status
     requires whole { core.old.error ≡ None }
     ensures cause { HasPlayCause (W.counts core.old.site) (W.counts core.new.site) (S.faults source.old) (S.faults source.new) result }
@@ -41,12 +44,14 @@ pub fn play<W: Site, S: Source>(alloc: Global, core: &mut Core<W>, source: &mut 
     ensures source_none_fell { S.faults source.old ≤ S.faults source.new }
     ensures source_faults { S.faults source.new ≡ faults_by result (S.faults source.old) }
     ensures input { S.tells → EndsInput (S.left source.old) (S.left source.new) result }
-    ensures plays { W.tells → S.tells → (m : Machine) → WorksFor W.state core.old m
-        → PlaysRight W.state W.counts m core.old core.new (S.left source.old) (S.left source.new) result }
-    ensures moments { W.tells → S.tells → (m : Machine) → WorksFor W.state core.old m
+    ensures plays { W.tells → S.tells → (e : Engine) → IsEngine W.state core.old e
+        → PlaysRight W.state W.counts e core.old core.new (S.left source.old) (S.left source.new) result }
+    ensures moments { W.tells → S.tells → (e : Engine) → IsEngine W.state core.old e
         → (before so_far : List ℕ) → (W.state core.old.site).now.told ≡ before ++ so_far → TellsWhole so_far
-        → acknowledged m.before so_far ≡ commits m
-        → EachMoment (KeepsAcknowledged (state_after_all m (script_of (S.left source.old))) before) (W.state core.old.site) (W.state core.new.site) }
+        → acknowledged e.machine.before so_far ≡ commits e.machine
+        → EachMoment (KeepsAcknowledged (after_requests e (script_of (S.left source.old))).machine before) (W.state core.old.site) (W.state core.new.site) }
+    ensures others { W.tells → (m : Machine) → WorksFor W.state core.old m
+        → EachMoment (LeavesOthers (W.state core.old.site).now) (W.state core.old.site) (W.state core.new.site) }
 {
     let mut lines = Lines::new(alloc);
     let mut text = Vec::new(alloc);

@@ -20,7 +20,7 @@ use Rattle.px_play.proofs.Acking.{nothing_taken}
 use Rattle.px_run.specs.Causes.{NoCountFell, TellsLineAlone}
 use Rattle.px_run.specs.Dumping.{DumpsRight, dump_pieces}
 use Rattle.px_run.specs.Making.{Made, MakeEnds, MakesRight, RefusesStore, made_pieces}
-use Rattle.px_run.specs.Running.{RunsRight, TakesAsTold, calls_made, machine_after, machine_left, run_pieces}
+use Rattle.px_run.specs.Running.{RunsRight, TakesAsTold, answers_made, machine_after, machine_left, run_pieces}
 use Rattle.px_run.specs.Told.{HasFilesOf, OnlyTells, TellFailed, TellsInAll, last_text}
 use Rattle.px_run.specs.Working.{Closes, DumpsRows, MakesStore, RefusesQuietly, RunsScript}
 use Rattle.px_cell_standing.proofs.Syncing.{settled_alike, stand_alike, store_alike}
@@ -175,10 +175,10 @@ run_closed found input left a b c x y z status runs closes fell later fault = re
   holds = unless_no_room status runs.whole
       (unless_broken status (store_alike (machine_left found (script_of input) runs.whole status) b c (only_closes closes).content (only_closes closes).files)) runs.holds;
   spared = on_short status (λ spared some.
-      later_spared (λ calls. HoldsStore (machine_after found calls) b) (λ calls. HoldsStore (machine_after found calls) c) (script_of input) (runs.whole - 1)
-      (λ calls. store_alike (machine_after found calls) b c (only_closes closes).content (only_closes closes).files) (omega arith) later.shorts (spared some)) runs.spared;
+      later_spared (λ requests. HoldsStore (machine_after found requests) b) (λ requests. HoldsStore (machine_after found requests) c) (script_of input) (runs.whole - 1)
+      (λ requests. store_alike (machine_after found requests) b c (only_closes closes).content (only_closes closes).files) (omega arith) later.shorts (spared some)) runs.spared;
   numbered = runs.numbered;
-  first_committer_wins = first_wins found (take (calls_made status runs.whole) (script_of input));
+  first_committer_wins = first_wins found (take (answers_made status runs.whole) (script_of input));
 }
 
 pub taken_closed : (found : Found) (input left : List ℕ) (a b c : State) (x y z : Counts) (status : Status) → RunsScript found input left a b x y status → Closes status b c y z → NoCountFell x y → OnOutput status (Rose x.tell_faults z.tell_faults)

@@ -5,23 +5,23 @@ use Rattle.px_site.specs.Cause.{Counts}
 use Rattle.px_site.specs.State.{State}
 use Rattle.px_source.specs.Source.{Rose as ReadRose}
 use Rattle.px_model.specs.Machine.{Machine}
-use Rattle.px_calls.specs.declared.call.Call.{Call}
 use Rattle.px_calls.specs.declared.status.Status.{Status}
 use Rattle.px_calls.specs.declared.status.Status.TheVariants.{Done, BadLine, NotEmpty, DiskFault, SourceFault, OutputFault, OutOfMemory, LogFull, TooLong}
-use Rattle.px_calls.specs.Histories.{by, FirstCommitterWins, machine_after, state_after_all}
-use Rattle.px_calls.specs.Steps.{state_after}
+use Rattle.px_calls.specs.Histories.{FirstCommitterWins}
+use Rattle.px_engine.specs.Engine.{Engine, after_step}
+use Rattle.px_engine.specs.Frames.{step_frames}
+use Rattle.px_engine.specs.Requests.{Request, Ask, Stat, after_requests, steps_of}
+use Rattle.px_engine.proofs.Stepping.{engine_behind, machine_of_requests}
 use Rattle.px_machine_laws.proofs.EveryHistory.{first_committer_wins}
-use Rattle.px_told.specs.declared.change.Change.{Change}
 use Rattle.px_script.specs.Grammar.{command_line}
 use Rattle.px_script.specs.Lines.{complete_after, rest_after, complete_lines, open_line, last_line, lines_at_end}
 use Rattle.px_restart.proofs.Restarts.{restart_long}
-use Rattle.px_logged.specs.Logged.{logged, logged_by_all}
 use Rattle.px_cell_standing.specs.Found.{Found, machine_of}
 use Rattle.px_standing.specs.Files.{Files, first_restart, second_restart}
 use Rattle.px_recovery.specs.Making.{IsFree, first_file, second_file}
 use Rattle.px_play.specs.Input.{AreCommands, EndsAt, EndsInput, IsFirstBad, IsOverlong, script_of}
 use Rattle.px_play.specs.Playing.{StopsFull}
-use Rattle.px_play.proofs.Calls.{calls_nil, calls_none, calls_some, long_none}
+use Rattle.px_play.proofs.Asked.{requests_nil, request_none, request_some, long_none}
 use Rattle.px_play.proofs.Parts.{complete_behind, first_after, rest_behind, rest_single}
 use Rattle.px_play.proofs.Places.{parts_at}
 use Rattle.px_run.specs.declared.command.Command.{Command}
@@ -29,7 +29,7 @@ use Rattle.px_run.specs.Causes.{HasStatusCause}
 use Rattle.px_run.specs.Dumping.{DumpsRight}
 use Rattle.px_run.specs.Making.{MakesRight}
 use Rattle.px_run.specs.Premises.{CanRun, HasRoom, IsDoneOrShort, IsEmpty, NoneRose}
-use Rattle.px_run.specs.Running.{EndsFull, FindsNoRoom, RunsRight}
+use Rattle.px_run.specs.Running.{EndsFull, FindsNoRoom, RunsRight, engine_of, machine_after}
 
 -- ---- `make` and `dump`
 
@@ -67,24 +67,24 @@ complete_dump command found a c x z reads reads_now _ room none cause dumps = ab
 
 -- the first of them is one
 record Begins (line : List ℕ) (lines : List (List ℕ)) : Type 0 where
-  call : ℕ × Call
-  is : command_line line ≡ Some call
+  request : Request
+  is : command_line line ≡ Some request
   others : AreCommands lines
 
 begins : (line : List ℕ) (lines : List (List ℕ)) → AreCommands (line ∷ lines) → Begins line lines
-begins line lines commands = by_call (command_line line) refl
+begins line lines commands = by_request (command_line line) refl
   where
-    by_call : (o : Option (ℕ × Call)) → command_line line ≡ o → Begins line lines
-    by_call None is = absurd (omega (arith, commands, ap length (calls_none line lines is)))
-    by_call (Some call) is = record { call = call; is = is; others = omega (arith, commands, ap length (calls_some line lines call is)) }
+    by_request : (o : Option Request) → command_line line ≡ o → Begins line lines
+    by_request None is = absurd (omega (arith, commands, ap length (request_none line lines is)))
+    by_request (Some request) is = record { request = request; is = is; others = omega (arith, commands, ap length (request_some line lines request is)) }
 
 -- so is each front of them
 front_commands : (front back : List (List ℕ)) → AreCommands (front ++ back) → AreCommands front × AreCommands back
-front_commands [] back commands = (ap length calls_nil, commands)
+front_commands [] back commands = (ap length requests_nil, commands)
 front_commands (line ∷ front) back commands =
     let first = begins line (front ++ back) commands in
     let others = front_commands front back first.others in
-    (omega (arith, others.0, ap length (calls_some line front first.call first.is)), others.1)
+    (omega (arith, others.0, ap length (request_some line front first.request first.is)), others.1)
 
 none_bad : (lines : List (List ℕ)) (k : ℕ) → AreCommands lines → IsFirstBad lines k → ⊥
 none_bad lines k commands bad = omega (arith, commands, bad.there)
@@ -133,9 +133,9 @@ none_overlong taken left k commands over =
     let on = goes_on (open_line taken) left (omega (arith, over.too_long)) in
     let parts = front_commands (complete_lines taken) (complete_after (open_line taken) left ++ last_line (rest_after (open_line taken) left)) (subst AreCommands (lines_parts taken left) commands) in
     let first = begins on.line on.others (subst AreCommands on.are parts.1) in
-    not_both (command_line on.line) first.call (long_none on.line (omega (arith, over.too_long, on.long))) first.is
+    not_both (command_line on.line) first.request (long_none on.line (omega (arith, over.too_long, on.long))) first.is
   where
-    not_both : (o : Option (ℕ × Call)) (c : ℕ × Call) → o ≡ None → o ≡ Some c → ⊥
+    not_both : (o : Option Request) (c : Request) → o ≡ None → o ≡ Some c → ⊥
     not_both o c none some = cc
 
 none_is_bad : (input taken left : List ℕ) (k : ℕ) → input ≡ taken ++ left → AreCommands (lines_at_end input) → EndsAt taken left (BadLine k) → ⊥
@@ -153,38 +153,35 @@ none_is_bad input taken left k in_order commands ends =
 
 -- ---- a log with room
 
-logged_both : (m : Machine) (calls later : List (ℕ × Call)) → logged_by_all m (calls ++ later) ≡ logged_by_all m calls ++ logged_by_all (state_after_all m calls) later
-logged_both m [] later = refl
-logged_both m (c ∷ calls) later =
-    ap (λ (l : List Change). logged m c.0 c.1 ++ l) (logged_both (state_after m c.0 c.1) calls later)
-    ∙ sym (append_assoc (logged m c.0 c.1) (logged_by_all (state_after m c.0 c.1) calls) (logged_by_all (state_after_all (state_after m c.0 c.1) calls) later))
+-- frames are never fewer
+frames_rise : (e : Engine) (requests : List Request) → e.frames ≤ (after_requests e requests).frames
+frames_rise e [] = omega arith
+frames_rise e (Ask step ∷ requests) = omega (arith, frames_rise (after_step e step) requests)
+frames_rise e (Stat ∷ requests) = frames_rise e requests
 
-some_more : (changes : List Change) → changes ≢ [] → 0 < length changes
-some_more [] none = absurd (none refl)
-some_more (change ∷ changes) none = omega arith
+some_frames : (n : ℕ) → n ≢ 0 → 0 < n
+some_frames zero none = absurd (none refl)
+some_frames (suc n) none = omega arith
 
-not_full : (found : Found) (input : List ℕ) (answered n : ℕ) → CanRun found input → StopsFull found.frames (machine_of found) (script_of input) answered n → ⊥
+not_full : (found : Found) (input : List ℕ) (answered n : ℕ) → CanRun found input → StopsFull (engine_of found) (script_of input) answered n → ⊥
 not_full found input answered n can full =
-    let m : Machine = machine_of found in
-    let script : List (ℕ × Call) = script_of input in
-    let front : List (ℕ × Call) = take answered script in
-    let back : List (ℕ × Call) = drop (answered + 1) script in
-    let one : List Change = logged (state_after_all m front) full.next.0 full.next.1 in
-    let rest : List Change = logged_by_all (state_after (state_after_all m front) full.next.0 full.next.1) back in
-    let parts : logged_by_all m script ≡ logged_by_all m front ++ (one ++ rest) = ap (logged_by_all m) (parts_at script answered full.next full.there) ∙ logged_both m front (full.next ∷ back) in
+    let script : List Request = script_of input in
+    let k : Engine = after_requests (engine_of found) (take answered script) in
+    let back : List Request = drop (answered + 1) script in
+    let parts : after_requests (engine_of found) script ≡ after_requests (after_step k full.step) back =
+    ap (after_requests (engine_of found)) (parts_at script answered (Ask full.step) full.there) ∙ engine_behind (engine_of found) (take answered script) (Ask full.step ∷ back) in
     omega (
       arith,
       can.numbers,
       full.none_left,
       full.number,
-      some_more one full.writes,
-      ap length parts,
-      length-append (logged_by_all m front) (one ++ rest),
-      length-append one rest,
+      some_frames (step_frames k.machine full.step) full.writes,
+      ap (λ (e : Engine). e.frames) parts,
+      frames_rise (after_step k full.step) back,
     )
 
 not_ends_full : (found : Found) (input : List ℕ) (whole n : ℕ) → CanRun found input → EndsFull found (script_of input) whole n → ⊥
-not_ends_full found input zero n can full = has_room found n (omega (arith, can.numbers)) full
+not_ends_full found input zero n can full = has_room found n (omega (arith, can.numbers, frames_rise (engine_of found) (script_of input))) full
 not_ends_full found input (suc answered) n can full = not_full found input answered n can full
 
 -- ---- `run`
@@ -204,11 +201,7 @@ complete_run command found input left a c x z reads reads_now _ can none no_read
 
 -- ---- the first committer
 
-one_by_one : (m : Machine) (calls : List (ℕ × Call)) → machine_after m (map (λ c. by c.0 c.1) calls) ≡ state_after_all m calls
-one_by_one m [] = refl
-one_by_one m (c ∷ calls) = one_by_one (state_after m c.0 c.1) calls
-
-pub first_wins : (found : Found) (calls : List (ℕ × Call)) → FirstCommitterWins (state_after_all (machine_of found) calls).ended
-first_wins found calls =
-    subst (λ (m : Machine). FirstCommitterWins m.ended) (one_by_one (machine_of found) calls)
-    (first_committer_wins found.tables found.short found.rows found.commits found.base (map (λ c. by c.0 c.1) calls))
+pub first_wins : (found : Found) (requests : List Request) → FirstCommitterWins (machine_after found requests).ended
+first_wins found requests =
+    subst (λ (m : Machine). FirstCommitterWins m.ended) (sym (machine_of_requests (engine_of found) requests))
+    (first_committer_wins found.tables found.short found.rows found.commits found.base (steps_of requests))

@@ -1,5 +1,5 @@
 -- The line that a run ends with acknowledges nothing.
-use Rattle.std.proofs.Common.{◌≡◌, ◌⊎◌, ℕ, zero, suc, List, [], ◌∷◌, ◌++◌, map, take, codes, refl, sym, ap, subst, ◌∙◌, append_assoc, inl, inr}
+use Rattle.std.proofs.Common.{◌≡◌, ◌⊎◌, ℕ, zero, suc, List, [], ◌∷◌, ◌++◌, take, codes, refl, sym, ap, subst, ◌∙◌, append_assoc, inl, inr}
 use Rattle.std.specs.List.{AllByRecursion}
 use Rattle.std.proofs.lemmas.List.{append-nil}
 use Rattle.px_site.specs.declared.error.Fault.{Fault}
@@ -9,24 +9,25 @@ use Rattle.px_site.specs.State.{State, EachMoment}
 use Rattle.px_site.specs.Names.{file_text}
 use Rattle.px_site.proofs.Moments.{same_moment, then_moments}
 use Rattle.px_model.specs.Machine.{Machine}
-use Rattle.px_calls.specs.declared.call.Call.{Call}
-use Rattle.px_calls.specs.declared.reply.Reply.{Reply}
+use Rattle.px_engine.specs.Engine.{Engine}
+use Rattle.px_engine.specs.Requests.{Request, after_request, answer_texts}
 use Rattle.px_calls.specs.declared.status.Status.{Status}
 use Rattle.px_calls.specs.declared.status.Status.TheVariants.{Done, Usage, BadLine, NoStore, NotEmpty, Damaged, DiskFault, SourceFault, OutputFault, OutOfMemory, LogFull, TooLong}
 use Rattle.px_calls.specs.Closing.{closing_line}
-use Rattle.px_calls.specs.Texts.{numbered, reply_text}
+use Rattle.px_calls.specs.Texts.{numbered}
 use Rattle.px_script.specs.Lines.{open_line}
 use Rattle.px_cell_standing.specs.Found.{Found, IsSettledStore, machine_of}
 use Rattle.px_standing.proofs.Moments.{last_moment}
 use Rattle.px_play.specs.Acknowledged.{KeepsAcknowledged, acknowledged}
 use Rattle.px_play.specs.Input.{script_of}
-use Rattle.px_play.specs.Playing.{pieces_of, replies_of}
+use Rattle.px_play.specs.Playing.{pieces_of}
 use Rattle.px_play.specs.Told.{IsTold, joined, last_piece}
-use Rattle.px_play.proofs.Acking.{nothing_taken}
+use Rattle.px_play.proofs.Acking.{nothing_taken, text_whole}
+use Rattle.px_play.proofs.Committing.{says_commit}
 use Rattle.px_play.proofs.Parts.{open_behind, open_nil}
-use Rattle.px_play.proofs.Replies.{IsQuiet, line_quiet, numbered_one, quiet_acknowledged, reply_whole}
+use Rattle.px_play.proofs.Replies.{IsQuiet, line_quiet, numbered_one, quiet_acknowledged}
 use Rattle.px_play.proofs.Words.{file_no_feed, no_feed_both}
-use Rattle.px_run.specs.Running.{machine_after, run_pieces}
+use Rattle.px_run.specs.Running.{engine_of, machine_after, run_pieces}
 use Rattle.px_run.specs.Working.{Closes, RunsScript}
 use Rattle.px_run.proofs.Pieces.{spoke_moments}
 use Rattle.px_run.proofs.Quiet.{AddsNothing, KeepsTold, front_after, front_within, opening_holds, opening_quiet, quiet_keeps, starting_told, told_kept}
@@ -81,17 +82,13 @@ joined_whole pieces each zero = open_nil
 joined_whole [] each (suc whole) = open_nil
 joined_whole (piece ∷ pieces) each (suc whole) = open_behind piece (joined (take whole pieces)) each.0 ∙ joined_whole pieces each.1 whole
 
-replies_whole : (m : Machine) (calls : List (ℕ × Call)) → AllByRecursion IsWhole (pieces_of m calls)
-unfolding pieces_of
-replies_whole m calls = each (replies_of m calls)
-  where
-    each : (replies : List Reply) → AllByRecursion IsWhole (map reply_text replies)
-    each [] = tt
-    each (reply ∷ replies) = (reply_whole reply, each replies)
+answers_whole : (e : Engine) (requests : List Request) → AllByRecursion IsWhole (answer_texts e requests)
+answers_whole e [] = tt
+answers_whole e (request ∷ requests) = (text_whole e.machine (after_request e request).machine (says_commit e request), answers_whole (after_request e request) requests)
 
-pieces_whole : (found : Found) (calls : List (ℕ × Call)) → AllByRecursion IsWhole (run_pieces found calls)
-unfolding run_pieces
-pieces_whole found calls = ((opening_quiet found).whole, replies_whole (machine_of found) calls)
+pieces_whole : (found : Found) (requests : List Request) → AllByRecursion IsWhole (run_pieces found requests)
+unfolding run_pieces pieces_of
+pieces_whole found requests = ((opening_quiet found).whole, answers_whole (engine_of found) requests)
 
 last_none : (pieces : List (List ℕ)) (whole : ℕ) (status : Status) → (closing_line status ≡ []) ⊎ (last_piece pieces whole status ≡ [])
 unfolding closing_line
@@ -104,9 +101,9 @@ record Told (status : Status) (a b : State) : Type 0 where
   told : b.now.told ≡ a.now.told ++ so_far
   whole : (closing_line status ≡ []) ⊎ (open_line so_far ≡ [])
 
-told_by : (found : Found) (calls : List (ℕ × Call)) (whole : ℕ) (status : Status) (a b : State) → IsTold (run_pieces found calls) whole status a b → Told status a b
-told_by found calls whole status a b is =
-    let pieces : List (List ℕ) = run_pieces found calls in
+told_by : (found : Found) (requests : List Request) (whole : ℕ) (status : Status) (a b : State) → IsTold (run_pieces found requests) whole status a b → Told status a b
+told_by found requests whole status a b is =
+    let pieces : List (List ℕ) = run_pieces found requests in
     let replies : List ℕ = joined (take whole pieces) in
     let last : List ℕ = take is.front (last_piece pieces whole status) in
     record {
@@ -116,17 +113,17 @@ told_by found calls whole status a b is =
         | inl none ↦ inl none
         | inr none ↦
             inr (ap (λ (l : List ℕ). open_line (replies ++ l)) (nothing_taken is.front (last_piece pieces whole status) none)
-            ∙ ap open_line (append-nil replies) ∙ joined_whole pieces (pieces_whole found calls) whole)
+            ∙ ap open_line (append-nil replies) ∙ joined_whole pieces (pieces_whole found requests) whole)
       ];
     }
 
 -- ---- at each moment
 
-kept_last : (found : Found) (calls : List (ℕ × Call)) (a b : State) → IsSettledStore found a → EachMoment (KeepsAcknowledged (machine_after found calls) a.now.told) a b
-    → KeepsTold (machine_after found calls) a.now.told b.now
-kept_last found calls a b store moments =
-    let m : Machine = machine_after found calls in
-    let first : KeepsTold m a.now.told a.now = starting_told found calls a.now (λ image plain. opening_holds found calls image (store.settled.images.each image plain)) in
+kept_last : (found : Found) (requests : List Request) (a b : State) → IsSettledStore found a → EachMoment (KeepsAcknowledged (machine_after found requests) a.now.told) a b
+    → KeepsTold (machine_after found requests) a.now.told b.now
+kept_last found requests a b store moments =
+    let m : Machine = machine_after found requests in
+    let first : KeepsTold m a.now.told a.now = starting_told found requests a.now (λ image plain. opening_holds found requests image (store.settled.images.each image plain)) in
     elim (last_moment moments) as (λ _. KeepsTold m a.now.told b.now) [
       | inl same ↦ subst (KeepsTold m a.now.told) (sym same) first
       | inr keeps ↦ told_kept keeps

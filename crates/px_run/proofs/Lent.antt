@@ -43,6 +43,6 @@ lent_runs found input left a b old new status runs = record {
   told = runs.told;
   holds = runs.holds;
   spared = on_short status (λ spared some.
-      later_spared (λ calls. HoldsStore (machine_after found calls) b) (λ calls. HoldsStore (machine_after found calls) b) (script_of input) (runs.whole - 1) (λ calls holds. holds) (omega arith) (omega arith) (spared some)) runs.spared;
+      later_spared (λ requests. HoldsStore (machine_after found requests) b) (λ requests. HoldsStore (machine_after found requests) b) (script_of input) (runs.whole - 1) (λ requests holds. holds) (omega arith) (omega arith) (spared some)) runs.spared;
   numbered = runs.numbered;
 }

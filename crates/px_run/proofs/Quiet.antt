@@ -4,7 +4,7 @@ use Rattle.std.proofs.lemmas.List.{append-nil, drop_at, take_all}
 use Rattle.px_site.specs.State.{Moment, telling, told}
 use Rattle.px_model.specs.declared.row.Row.{Row}
 use Rattle.px_model.specs.Machine.{Machine, commits, fresh, published}
-use Rattle.px_calls.specs.declared.call.Call.{Call}
+use Rattle.px_engine.specs.Requests.{Request}
 use Rattle.px_calls.specs.Texts.{numbered, opened_line}
 use Rattle.px_script.specs.Lines.{complete_lines}
 use Rattle.px_logged.specs.Recounting.{rows_now}
@@ -14,11 +14,11 @@ use Rattle.px_cell_standing.specs.Images.{HasCommitted, KeepsStanding}
 use Rattle.px_standing.specs.Images.{IsPlainImage}
 use Rattle.px_cell_standing.specs.Found.{Found, machine_of}
 use Rattle.px_play.specs.Acknowledged.{HoldsAcknowledged, KeepsAcknowledged, acknowledged}
-use Rattle.px_play.proofs.Acking.{holds_at, nothing_taken, out_behind}
+use Rattle.px_play.proofs.Acking.{follow, holds_at, nothing_taken, out_behind}
 use Rattle.px_play.proofs.Parts.{open_nil}
 use Rattle.px_play.proofs.Replies.{IsQuiet, line_quiet, numbered_one, quiet_acknowledged}
 use Rattle.px_play.proofs.Words.{no_feed_both}
-use Rattle.px_run.specs.Running.{machine_after, opening_line}
+use Rattle.px_run.specs.Running.{engine_of, machine_after, opening_line}
 use Rattle.px_run.proofs.Alike.{plain_alike}
 
 -- ---- a text that is told
@@ -98,20 +98,20 @@ acked_first found = ack_nothing (machine_of found).before ∙ before_is found �
 -- ---- while nothing is acknowledged
 
 -- what stands for all that was found holds all that was acknowledged when nothing was told yet
-pub starting_holds : (found : Found) (calls : List (ℕ × Call)) (image : Files) → HasCommitted (machine_of found) image → HoldsAcknowledged (machine_after found calls) [] image
-starting_holds found calls image has = holds_at (machine_of found) calls [] image has (omega (arith, acked_first found)) (omega (arith, acked_first found))
+pub starting_holds : (found : Found) (requests : List Request) (image : Files) → HasCommitted (machine_of found) image → HoldsAcknowledged (machine_after found requests) [] image
+starting_holds found requests image has = holds_at (machine_of found) (machine_after found requests) (follow (engine_of found) requests) [] image has (omega (arith, acked_first found)) (omega (arith, acked_first found))
 
-pub opening_holds : (found : Found) (calls : List (ℕ × Call)) (image : Files) → StandsFor image found.commits found.rows → HoldsAcknowledged (machine_after found calls) [] image
-opening_holds found calls image stands =
+pub opening_holds : (found : Found) (requests : List Request) (image : Files) → StandsFor image found.commits found.rows → HoldsAcknowledged (machine_after found requests) [] image
+opening_holds found requests image stands =
     let m : Machine = machine_of found in
-    starting_holds found calls image (subst (λ (n : ℕ). StandsFor image n (rows_now m)) (sym (commits_are found)) (subst (λ (rows : List Row). StandsFor image found.commits rows) (sym (rows_are found)) stands))
+    starting_holds found requests image (subst (λ (n : ℕ). StandsFor image n (rows_now m)) (sym (commits_are found)) (subst (λ (rows : List Row). StandsFor image found.commits rows) (sym (rows_are found)) stands))
 
-pub opening_keeps : (found : Found) (calls : List (ℕ × Call)) (a now : Moment) → KeepsStanding found.commits found.rows a now → KeepsAcknowledged (machine_after found calls) a.told now
-opening_keeps found calls a now keeps = record {
+pub opening_keeps : (found : Found) (requests : List Request) (a now : Moment) → KeepsStanding found.commits found.rows a now → KeepsAcknowledged (machine_after found requests) a.told now
+opening_keeps found requests a now keeps = record {
   each = λ image out plain is_out.
       let nothing : drop (length a.told) out ≡ [] =
       out_behind a.told [] now.telling out now.told is_out.front is_out.text (keeps.told ∙ sym (append-nil a.told)) ∙ nothing_taken is_out.front now.telling keeps.telling in
-      subst (λ (l : List ℕ). HoldsAcknowledged (machine_after found calls) l image) (sym nothing) (opening_holds found calls image (keeps.images.each image plain));
+      subst (λ (l : List ℕ). HoldsAcknowledged (machine_after found requests) l image) (sym nothing) (opening_holds found requests image (keeps.images.each image plain));
   told_later = ([], keeps.told ∙ sym (append-nil a.told));
 }
 
@@ -119,9 +119,9 @@ pub nothing_behind : (l : List ℕ) → drop (length l) l ≡ []
 nothing_behind l = ap (drop (length l)) (sym (append-nil l)) ∙ drop_at l [] (length l) refl
 
 -- before anything is told
-pub starting_told : (found : Found) (calls : List (ℕ × Call)) (m : Moment) → ((image : Files) → IsPlainImage m image → HoldsAcknowledged (machine_after found calls) [] image) → KeepsTold (machine_after found calls) m.told m
-starting_told found calls m holds = record {
-  each = λ image plain. subst (λ (l : List ℕ). HoldsAcknowledged (machine_after found calls) l image) (sym (nothing_behind m.told)) (holds image plain);
+pub starting_told : (found : Found) (requests : List Request) (m : Moment) → ((image : Files) → IsPlainImage m image → HoldsAcknowledged (machine_after found requests) [] image) → KeepsTold (machine_after found requests) m.told m
+starting_told found requests m holds = record {
+  each = λ image plain. subst (λ (l : List ℕ). HoldsAcknowledged (machine_after found requests) l image) (sym (nothing_behind m.told)) (holds image plain);
 }
 
 -- ---- texts

@@ -5,29 +5,32 @@ use Rattle.px_site.specs.State.{State, EachMoment, told}
 use Rattle.px_site.specs.Cause.{Counts, NoneFell}
 use Rattle.px_site.proofs.Moments.{then_moments, weaker_moments}
 use Rattle.px_model.specs.Machine.{Machine, commits}
-use Rattle.px_calls.specs.declared.call.Call.{Call}
+use Rattle.px_engine.specs.Requests.{Request}
 use Rattle.px_calls.specs.declared.status.Status.{Status}
 use Rattle.px_calls.specs.declared.status.Status.TheVariants.{Done, Usage, BadLine, NoStore, NotEmpty, Damaged, DiskFault, SourceFault, OutputFault, OutOfMemory, LogFull, TooLong}
 use Rattle.px_calls.specs.Texts.{opened_line}
 use Rattle.px_cell_standing.specs.Found.{Found, HoldsStore, machine_of}
 use Rattle.px_cell_standing.specs.Images.{KeepsStanding}
-use Rattle.px_core.specs.Core.{frames_of}
+use Rattle.px_core.specs.Core.{durable_of, frames_of}
 use Rattle.px_core.specs.declared.state.Kept.{Kept}
 use Rattle.px_core.specs.Working.{WorksFor}
 use Rattle.px_recovery.specs.declared.opening.OpenReport.{OpenReport}
 use Rattle.px_recovery.specs.declared.error.OpenError.{OpenError}
 use Rattle.px_recovery.specs.declared.error.OpenError.TheVariants.{OutOfMemory as OpenShort, Fault as OpenFault, NoStore as OpenNone, LogFull as OpenFull, Damaged as OpenDamaged}
 use Rattle.px_recovery.specs.Errors.{FindsNoRoom, IsPassing, status_of_opening}
-use Rattle.px_recovery.specs.Opening.{report_of}
+use Rattle.px_recovery.specs.Opening.{OpensTo, report_of}
 use Rattle.px_play.specs.Acknowledged.{KeepsAcknowledged, TellsWhole, acknowledged}
+use Rattle.px_engine.specs.Engine.{Engine}
+use Rattle.px_engine.specs.Requests.{after_requests}
 use Rattle.px_play.specs.Causes.{faults_by}
+use Rattle.px_play.specs.Engine.{IsEngine}
 use Rattle.px_play.specs.Input.{script_of}
-use Rattle.px_play.specs.Playing.{AreNumbered, HoldsAll, IsSpared, OnShort, PlaysRight, StopsAfter, UnlessBroken, calls_made as replies_made, pieces_of}
+use Rattle.px_play.specs.Playing.{AreNumbered, IsSpared, OnShort, PlaysRight, StopsAfter, UnlessBroken, answers_made as texts_made, pieces_of}
 use Rattle.px_play.specs.Told.{IsTold}
 use Rattle.px_play.proofs.Parts.{open_nil}
 use Rattle.px_play.proofs.Replies.{quiet_acknowledged}
 use Rattle.px_play.proofs.Stays.{stands_whole}
-use Rattle.px_run.specs.Running.{RunEnds, UnlessNoRoom, calls_made, machine_after, machine_left, opening_line, run_pieces}
+use Rattle.px_run.specs.Running.{RunEnds, UnlessNoRoom, answers_made, engine_of, machine_after, machine_left, opening_line, run_pieces}
 use Rattle.px_run.specs.Working.{HasTellCause, RunsBy, RunsScript, TellsPiece}
 use Rattle.px_run.proofs.Pieces.{piece_moments, told_behind, told_from, told_nothing}
 use Rattle.px_run.proofs.Quiet.{AddsNothing, front_after, front_within, opening_acknowledges, opening_keeps, opening_quiet, quiet_keeps, starting_holds, starting_told}
@@ -35,11 +38,11 @@ use Rattle.px_run.proofs.Quiet.{AddsNothing, front_after, front_within, opening_
 -- ---- at each moment
 
 -- while the store is opened
-pub opening_moments : {a b : State} (found : Found) (script : List (ℕ × Call)) → EachMoment (KeepsStanding found.commits found.rows a.now) a b → EachMoment (KeepsAcknowledged (machine_after found script) a.now.told) a b
+pub opening_moments : {a b : State} (found : Found) (script : List Request) → EachMoment (KeepsStanding found.commits found.rows a.now) a b → EachMoment (KeepsAcknowledged (machine_after found script) a.now.told) a b
 opening_moments {a} found script moments = weaker_moments (λ m keeps. opening_keeps found script a.now m keeps) moments
 
 -- while the opened line is told
-pub line_moments : {W : Type 0} {core : Kept W} {b : State} (state : W → State) (found : Found) (script : List (ℕ × Call)) (result : Result (Unit {0}) Status) → WorksFor state core (machine_of found) → TellsPiece (opening_line found) (state core.site) b result
+pub line_moments : {W : Type 0} {core : Kept W} {b : State} (state : W → State) (found : Found) (script : List Request) (result : Result (Unit {0}) Status) → WorksFor state core (machine_of found) → TellsPiece (opening_line found) (state core.site) b result
     → EachMoment (KeepsAcknowledged (machine_after found script) (state core.site).now.told) (state core.site) b
 line_moments {W} {core} {b} state found script result works tells =
     let a : State = state core.site in
@@ -52,13 +55,13 @@ line_moments {W} {core} {b} state found script result works tells =
     (subst (λ (l : List ℕ). KeepsAcknowledged last a.now.told (told l a.now)) (take_all (length line) line (omega arith)) (out (length line))) out
 
 -- behind the line
-pub script_moments : {a b c : State} (found : Found) (script : List (ℕ × Call)) → b.now.told ≡ a.now.told ++ opening_line found → EachMoment (KeepsAcknowledged (machine_after found script) a.now.told) a b
+pub script_moments : {a b c : State} (found : Found) (script : List Request) → b.now.told ≡ a.now.told ++ opening_line found → EachMoment (KeepsAcknowledged (machine_after found script) a.now.told) a b
     → ((before so_far : List ℕ) → b.now.told ≡ before ++ so_far → TellsWhole so_far → acknowledged (machine_of found).before so_far ≡ commits (machine_of found) → EachMoment (KeepsAcknowledged (machine_after found script) before) b c)
     → EachMoment (KeepsAcknowledged (machine_after found script) a.now.told) a c
 script_moments {a} found script line first later = then_moments first (later a.now.told (opening_line found) line (opening_quiet found).whole (opening_acknowledges found))
 
 -- behind the opening
-pub moments_behind : {a b c : State} (found : Found) (script : List (ℕ × Call)) → b.now.told ≡ a.now.told → EachMoment (KeepsStanding found.commits found.rows a.now) a b
+pub moments_behind : {a b c : State} (found : Found) (script : List Request) → b.now.told ≡ a.now.told → EachMoment (KeepsStanding found.commits found.rows a.now) a b
     → EachMoment (KeepsAcknowledged (machine_after found script) b.now.told) b c → EachMoment (KeepsAcknowledged (machine_after found script) a.now.told) a c
 moments_behind {a} {b} {c} found script same first later =
     then_moments (opening_moments found script first) (subst (λ (before : List ℕ). EachMoment (KeepsAcknowledged (machine_after found script) before) b c) same later)
@@ -107,8 +110,8 @@ with_room TooLong whole p = p
 one_less : (whole : ℕ) → suc whole - 1 ≡ whole
 one_less whole = omega arith
 
--- so many replies, and the opened line in front of them
-run_ends : (found : Found) (script : List (ℕ × Call)) (taken : List ℕ) (whole : ℕ) (status : Status) → StopsAfter found.frames (machine_of found) script taken whole status → RunEnds found script taken (suc whole) status
+-- so many answers, and the opened line in front of them
+run_ends : (found : Found) (script : List Request) (taken : List ℕ) (whole : ℕ) (status : Status) → StopsAfter (engine_of found) script taken whole status → RunEnds found script taken (suc whole) status
 run_ends found script taken whole Done stops = omega (arith, stops)
 run_ends found script taken whole (BadLine k) stops = omega (arith, stops)
 run_ends found script taken whole (DiskFault fault) stops = omega (arith, stops)
@@ -124,14 +127,14 @@ on_short OutOfMemory f p = f p
 on_short _ f p = tt
 
 -- with the counts before and behind, and by what follows from what is held
-pub later_spared : (H K : List (ℕ × Call) → Type 0) (script : List (ℕ × Call)) (answered : ℕ) {x y z t : Counts} → ((calls : List (ℕ × Call)) → H calls → K calls) → x.shorts ≤ y.shorts → z.shorts ≤ t.shorts → IsSpared H script answered y z
+pub later_spared : (H K : List Request → Type 0) (script : List Request) (answered : ℕ) {x y z t : Counts} → ((requests : List Request) → H requests → K requests) → x.shorts ≤ y.shorts → z.shorts ≤ t.shorts → IsSpared H script answered y z
     → IsSpared K script answered x t
 later_spared H K script answered weaker below above (inl same) = inl (weaker (take answered script) same)
 later_spared H K script answered weaker below above (inr (inl one)) = inr (inl (weaker (take (answered + 1) script) one))
 later_spared H K script answered weaker below above (inr (inr short)) = inr (inr (record { session = short.session; there = short.there; rose = omega (arith, below, above, short.rose) }))
 
--- so many calls behind the opened line
-made_behind : (status : Status) (whole : ℕ) → calls_made status (suc whole) ≡ replies_made status whole
+-- so many requests behind the opened line
+made_behind : (status : Status) (whole : ℕ) → answers_made status (suc whole) ≡ texts_made status whole
 made_behind OutputFault whole = omega arith
 made_behind Done whole = one_less whole
 made_behind Usage whole = one_less whole
@@ -145,30 +148,33 @@ made_behind OutOfMemory whole = one_less whole
 made_behind (LogFull n) whole = one_less whole
 made_behind TooLong whole = one_less whole
 
+-- what was opened is the engine that starts there, also once its line was told
+pub engine_opened : {W : Type 0} {state : W → State} {core : Kept W} {report : OpenReport} (found : Found) → OpensTo state found core report → (new : Kept W) → ((m : Machine) → WorksFor state core m → WorksFor state new m)
+    → new ≡ record core { site = new.site } → IsEngine state new (engine_of found)
+engine_opened {W} {state} {core} found opens new on rest = record { works = on (machine_of found) opens.works; frames = ap frames_of rest ∙ opens.frames; durable = ap durable_of rest ∙ opens.durable }
+
 -- the opened line was told, and the script played
-pub script_played : {W : Type 0} {state : W → State} {counts : W → Counts} {found : Found} {old new : Kept W} {input left : List ℕ} {a : State} {x : Counts} {status : Status} → frames_of old ≡ found.frames
-    → (state old.site).now.told ≡ a.now.told ++ opening_line found → NoneFell x (counts old.site) → PlaysRight state counts (machine_of found) old new input left status
+pub script_played : {W : Type 0} {state : W → State} {counts : W → Counts} {found : Found} {old new : Kept W} {input left : List ℕ} {a : State} {x : Counts} {status : Status} → (state old.site).now.told ≡ a.now.told ++ opening_line found → NoneFell x (counts old.site) → PlaysRight state counts (engine_of found) old new input left status
     → RunsBy (WorksFor state new) found input left a (state new.site) x (counts new.site) status
 unfolding run_pieces
-script_played {W} {state} {counts} {found} {old} {new} {input} {left} {a} {x} {status} frames line fell p =
-    let m : Machine = machine_of found in
-    let script : List (ℕ × Call) = script_of input in
+script_played {W} {state} {counts} {found} {old} {new} {input} {left} {a} {x} {status} line fell p =
+    let e : Engine = engine_of found in
+    let script : List Request = script_of input in
     record {
       taken = p.taken;
       in_order = p.in_order;
       whole = suc p.whole;
       read_before = omega (arith, p.read_before);
       behind = p.little;
-      ends = run_ends found script p.taken p.whole status (subst (λ (n : ℕ). StopsAfter n m script p.taken p.whole status) frames p.stops);
-      told = told_behind (opening_line found) (pieces_of m script) p.whole status a (state old.site) (state new.site) line p.told;
+      ends = run_ends found script p.taken p.whole status p.stops;
+      told = told_behind (opening_line found) (pieces_of e script) p.whole status a (state old.site) (state new.site) line p.told;
       holds = with_room status p.whole
           (subst (λ (n : ℕ). UnlessBroken status (WorksFor state new (machine_after found (take n script)))) (sym (made_behind status p.whole))
-          (unless_broken status (λ (all : HoldsAll state m (take (replies_made status p.whole) script) old new). all.works) p.holds));
+          (unless_broken status (λ (all : IsEngine state new (after_requests e (take (texts_made status p.whole) script))). all.works) p.holds));
       spared = on_short status (λ spared some.
-          subst (λ (n : ℕ). IsSpared (λ (calls : List (ℕ × Call)). WorksFor state new (machine_after found calls)) script n x (counts new.site)) (sym (one_less p.whole))
-          (later_spared (λ calls. HoldsAll state m calls old new) (λ calls. WorksFor state new (machine_after found calls)) script p.whole (λ calls all. all.works) fell.shorts (omega arith) spared)) p.spared;
-      numbered = subst (λ (n : ℕ). AreNumbered found.frames m (take n script)) (sym (made_behind status p.whole))
-          (subst (λ (n : ℕ). AreNumbered n m (take (replies_made status p.whole) script)) frames p.numbered);
+          subst (λ (n : ℕ). IsSpared (λ (requests : List Request). WorksFor state new (machine_after found requests)) script n x (counts new.site)) (sym (one_less p.whole))
+          (later_spared (λ requests. IsEngine state new (after_requests e requests)) (λ requests. WorksFor state new (machine_after found requests)) script p.whole (λ requests all. all.works) fell.shorts (omega arith) spared)) p.spared;
+      numbered = subst (λ (n : ℕ). AreNumbered e (take n script)) (sym (made_behind status p.whole)) p.numbered;
     }
 
 -- the statuses by which nothing was told
@@ -237,7 +243,7 @@ tells_opening found report bytes a b result text same tells = subst (λ (l : Lis
 pub run_behind : {W : Type 0} {state : W → State} (counts : W → Counts) {found : Found} {core : Kept W} {input left : List ℕ} {a b : State} {x y : Counts} {status : Status} (site : W) → b.now.told ≡ a.now.told → NoneFell x y → site ≡ core.site
     → ((m : Machine) → WorksFor state core m → HoldsStore m (state site)) → RunsBy (WorksFor state core) found input left b (state core.site) y (counts core.site) status → RunsScript found input left a (state site) x (counts site) status
 run_behind {W} {state} counts {found} {core} {input} {left} {a} {b} {x} {y} {status} site same fell closed settles runs =
-    let script : List (ℕ × Call) = script_of input in
+    let script : List Request = script_of input in
     let shorts : (counts core.site).shorts ≡ (counts site).shorts = ap (λ (w : W). (counts w).shorts) (sym closed) in
     record {
       taken = runs.taken;
@@ -249,8 +255,8 @@ run_behind {W} {state} counts {found} {core} {input} {left} {a} {b} {x} {y} {sta
       told = subst (λ (w : W). IsTold (run_pieces found script) runs.whole status a (state w)) (sym closed) (told_from (run_pieces found script) runs.whole status a b (state core.site) same runs.told);
       holds = unless_no_room status runs.whole (unless_broken status (settles (machine_left found script runs.whole status))) runs.holds;
       spared = on_short status (λ spared some.
-          later_spared (λ calls. WorksFor state core (machine_after found calls)) (λ calls. HoldsStore (machine_after found calls) (state site)) script (runs.whole - 1)
-          (λ calls works. settles (machine_after found calls) works) fell.shorts (omega (arith, shorts)) (spared some)) runs.spared;
+          later_spared (λ requests. WorksFor state core (machine_after found requests)) (λ requests. HoldsStore (machine_after found requests) (state site)) script (runs.whole - 1)
+          (λ requests works. settles (machine_after found requests) works) fell.shorts (omega (arith, shorts)) (spared some)) runs.spared;
       numbered = runs.numbered;
     }
 

@@ -8,10 +8,11 @@ use Rattle.px_calls.specs.declared.status.Status.TheVariants.{Done, OutOfMemory}
 use Rattle.px_script.specs.Lines.{lines_at_end}
 use Rattle.px_script.specs.Progress.{longest_input}
 use Rattle.px_log.specs.Log.{most_frames}
-use Rattle.px_cell_standing.specs.Found.{Found, machine_of}
+use Rattle.px_cell_standing.specs.Found.{Found}
+use Rattle.px_engine.specs.Requests.{after_requests}
 use Rattle.px_standing.specs.Files.{Files}
 use Rattle.px_play.specs.Input.{AreCommands, script_of}
-use Rattle.px_play.specs.Playing.{frames_after}
+use Rattle.px_run.specs.Running.{engine_of}
 
 -- no call of the site failed
 pub record NoneRose (old new : Counts) : Type 0 where
@@ -36,4 +37,4 @@ HasRoom found = found.frames ≤ most_frames
 pub record CanRun (found : Found) (input : List ℕ) : Type 0 where
   pub commands : AreCommands (lines_at_end input)
   pub below : length input < longest_input
-  pub numbers : frames_after found.frames (machine_of found) (script_of input) ≤ most_frames
+  pub numbers : (after_requests (engine_of found) (script_of input)).frames ≤ most_frames

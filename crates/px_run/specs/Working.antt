@@ -17,7 +17,7 @@ use Rattle.px_play.specs.Playing.{AreNumbered, IsSpared, OnShort, UnlessBroken}
 use Rattle.px_play.specs.Told.{joined, IsTold}
 use Rattle.px_run.specs.Dumping.{DumpEnds, OnDone, dump_pieces}
 use Rattle.px_run.specs.Making.{MakeEnds, made_pieces}
-use Rattle.px_run.specs.Running.{RunEnds, TakesBehind, UnlessNoRoom, calls_made, machine_after, machine_left, run_pieces}
+use Rattle.px_run.specs.Running.{RunEnds, TakesBehind, UnlessNoRoom, answers_made, engine_of, machine_after, machine_left, run_pieces}
 use Rattle.px_run.specs.Told.{OnlyTells, TellFailed}
 
 -- ---- one piece
@@ -81,7 +81,7 @@ pub record DumpsRows (found : Found) (old new : State) (status : Status) : Type 
   pub tells : TellsRows found old new status
   pub holds : OnDone status (HoldsStore (machine_of found) new)
 
--- what `run` told, and what holds of the machine after the calls
+-- what `run` told, and what holds of the machine after the requests
 pub record RunsBy (Holds : Machine → Type 0) (found : Found) (input left : List ℕ) (old new : State) (counts counts_now : Counts) (status : Status) : Type 0 where
   pub taken : List ℕ
   pub in_order : input ≡ taken ++ left
@@ -91,8 +91,8 @@ pub record RunsBy (Holds : Machine → Type 0) (found : Found) (input left : Lis
   pub ends : RunEnds found (script_of input) taken whole status
   pub told : IsTold (run_pieces found (script_of input)) whole status old new
   pub holds : UnlessNoRoom status whole (UnlessBroken status (Holds (machine_left found (script_of input) whole status)))
-  pub spared : OnShort status (1 ≤ whole → IsSpared (λ calls. Holds (machine_after found calls)) (script_of input) (whole - 1) counts counts_now)
-  pub numbered : AreNumbered found.frames (machine_of found) (take (calls_made status whole) (script_of input))
+  pub spared : OnShort status (1 ≤ whole → IsSpared (λ requests. Holds (machine_after found requests)) (script_of input) (whole - 1) counts counts_now)
+  pub numbered : AreNumbered (engine_of found) (take (answers_made status whole) (script_of input))
 
 -- the site is a store that has all that this machine did
 abbrev pub RunsScript : Found → (input left : List ℕ) → (old new : State) → (counts counts_now : Counts) → Status → Type 0

@@ -5,11 +5,10 @@ ghost use Rattle.px_play.specs.Input.{script_of};
 ghost use Rattle.px_play.specs.Told.{joined};
 ghost use Rattle.px_model.specs.Machine.{commits};
 ghost use Rattle.px_logged.specs.Recounting.{rows_now};
-ghost use Rattle.px_cell_standing.specs.Found.{machine_of};
-ghost use Rattle.px_play.specs.Playing.{frames_after};
+ghost use Rattle.px_engine.specs.Requests.{after_requests};
 ghost use Rattle.px_run.specs.Command.{command_of};
 ghost use Rattle.px_run.specs.Examples.{small, small_input, small_row, small_told};
-ghost use Rattle.px_run.specs.Running.{run_pieces, machine_after};
+ghost use Rattle.px_run.specs.Running.{engine_of, run_pieces, machine_after};
 ghost use Rattle.px_run.specs.declared.command.Command.{Command};
 
 pub fn what_words_are()
@@ -22,7 +21,7 @@ pub fn what_words_are()
 
 pub fn a_small_run()
     ensures told { joined (run_pieces small (script_of small_input)) ≡ small_told }
-    ensures frames { frames_after small.frames (machine_of small) (script_of small_input) ≡ 2 }
+    ensures frames { (after_requests (engine_of small) (script_of small_input)).frames ≡ 2 }
     ensures commits { commits (machine_after small (script_of small_input)) ≡ 1 }
     ensures rows { rows_now (machine_after small (script_of small_input)) ≡ small_row ∷ [] }
     ensures acknowledged { acknowledged 0 small_told ≡ 1 }

@@ -4,7 +4,7 @@ use std::test::Fail;
 
 /// Calls of the program one after the other: whether the site is a new one, the words, the input, what is told, and the
 /// exit status.
-const CALLS: [(bool, &str, &str, &str, u8); 24] = [
+const CALLS: [(bool, &str, &str, &str, u8); 34] = [
     (true, "make 1 64", "", "made 1 64\n", 0),
     (false, "run", "", "opened commits 0 rows 0 redone 0\n", 0),
     (false, "dump", "", "rows 0\n", 0),
@@ -53,6 +53,60 @@ const CALLS: [(bool, &str, &str, &str, u8); 24] = [
         "a begin\nb begin\na insert 1 01 0 aa\na commit\nb update 1 01 0 bb\n",
         "opened commits 0 rows 0 redone 1\nbegan 1\nbegan 2\ninserted\ncommitted 1\nconflict 1\n",
         0,
+    ),
+    // a version that was rolled back goes with its sweep, in a frame that no sync follows
+    (true, "make 1 64", "", "made 1 64\n", 0),
+    (
+        false,
+        "run",
+        "a begin\na insert 1 01 0 aa\na rollback\nb begin\nb insert 1 01 0 bb\nstat\nsweeper\nsweeper\nstat\n",
+        "opened commits 0 rows 0 redone 0\nbegan 1\ninserted\nrolled back\nbegan 2\ninserted\n\
+         stat commits 0 open 1 unswept 1 variations 2 live 0 held 0 frames 3 durable 0 applied 0 redo 0\nswept 1\nidle\n\
+         stat commits 0 open 1 unswept 0 variations 1 live 0 held 0 frames 4 durable 0 applied 0 redo 0\n",
+        0,
+    ),
+    // a snapshot holds the sweeper back, and of a deletion nothing stays
+    (true, "make 1 64", "", "made 1 64\n", 0),
+    (
+        false,
+        "run",
+        "a begin\na insert 1 01 3 aa\na commit\nb begin\nc begin\nc delete 1 01\nc commit\nd begin\nd insert 1 01 4 bb\nd commit\n\
+         b get 1 01\ne begin\ne get 1 01\nsweeper\nsweeper\nb rollback\nsweeper\nsweeper\nstat\n",
+        "opened commits 0 rows 0 redone 0\nbegan 1\ninserted\ncommitted 1\nbegan 2\nbegan 3\ndeleted\ncommitted 2\nbegan 4\ninserted\n\
+         committed 3\nrow 3 aa\nbegan 5\nrow 4 bb\nswept 1\nidle\nrolled back\nswept 3\nswept 4\n\
+         stat commits 3 open 1 unswept 0 variations 1 live 0 held 0 frames 7 durable 6 applied 0 redo 0\n",
+        0,
+    ),
+    // the row below a swept one goes with it
+    (true, "make 1 64", "", "made 1 64\n", 0),
+    (
+        false,
+        "run",
+        "a begin\na insert 1 01 0 aa\na commit\nb begin\nc begin\nc update 1 01 0 bb\nc commit\nsweeper\nsweeper\nstat\nb commit\nsweeper\nstat\n",
+        "opened commits 0 rows 0 redone 0\nbegan 1\ninserted\ncommitted 1\nbegan 2\nbegan 3\nupdated\ncommitted 2\nswept 1\nidle\n\
+         stat commits 2 open 1 unswept 1 variations 2 live 0 held 0 frames 4 durable 4 applied 0 redo 0\nended\nswept 3\n\
+         stat commits 2 open 0 unswept 0 variations 1 live 0 held 0 frames 5 durable 4 applied 0 redo 0\n",
+        0,
+    ),
+    // rows are found by their tags as a snapshot has them
+    (true, "make 1 64", "", "made 1 64\n", 0),
+    (
+        false,
+        "run",
+        "a begin\na insert 1 01 5 aa\na commit\nb begin\nc begin\nc update 1 01 6 bb\nc commit\nb find 1 5\nb find 1 6\nc begin\nc find 1 5\nc find 1 6\n",
+        "opened commits 0 rows 0 redone 0\nbegan 1\ninserted\ncommitted 1\nbegan 2\nbegan 3\nupdated\ncommitted 2\n\
+         found 1\nat 01 5 aa\nfound 0\nbegan 4\nfound 0\nfound 1\nat 01 6 bb\n",
+        0,
+    ),
+    // a ticket keeps a row as it was
+    (true, "make 1 64", "", "made 1 64\n", 0),
+    (
+        false,
+        "run",
+        "a begin\na insert 1 01 3 aa\na hold 1 01\na update 1 01 4 bb\na fetch 1\na fetch 2\na insert 1 02 0 -\na scan 1\nwriter\n",
+        "opened commits 0 rows 0 redone 0\nbegan 1\ninserted\nheld 1\nupdated\nrow 3 aa\nno ticket\ninserted\n\
+         found 2\nat 01 4 bb\nat 02 0 -\nline 9: not a command\n",
+        2,
     ),
     // the last line needs no line feed, and each session's letter is read
     (true, "make 8 16", "", "made 8 16\n", 0),

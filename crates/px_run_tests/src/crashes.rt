@@ -1,5 +1,6 @@
 use crate::scripts::{
-    BESIDE_A_SNAPSHOT, NOT_ACKNOWLEDGED, READ_AGAIN, Script, THREE_COMMITS, sync_of_the_commit,
+    AROUND_A_SWEEP, BESIDE_A_SNAPSHOT, NOT_ACKNOWLEDGED, READ_AGAIN, Script, THREE_COMMITS,
+    sync_of_the_commit,
 };
 use crate::stores::{call, crash_at, failing_store, told_by};
 use px_memsite::{Keep, MemSite, Pick};
@@ -163,6 +164,11 @@ fn a_commit_beside_a_snapshot_outlives_crashes(rt: HostRuntime) -> Result<(), Fa
 #[test]
 fn three_commits_outlive_crashes_in_order(rt: HostRuntime) -> Result<(), Fail> {
     crash_without_faults(&rt, rt.alloc(), THREE_COMMITS)
+}
+
+#[test]
+fn commits_around_a_sweep_outlive_crashes(rt: HostRuntime) -> Result<(), Fail> {
+    crash_without_faults(&rt, rt.alloc(), AROUND_A_SWEEP)
 }
 
 #[test]

@@ -39,6 +39,18 @@ pub(crate) const THREE_COMMITS: Script = Script {
     ],
 };
 
+/// The slot of a version that went with a sweep is used again.
+pub(crate) const AROUND_A_SWEEP: Script = Script {
+    lines: "a begin\na insert 1 01 0 aa\na commit\na begin\na update 1 01 0 bb\na commit\nsweeper\nsweeper\nb begin\nb insert 1 02 0 cc\nb commit\n",
+    commits: &[3, 6, 11],
+    dumps: &[
+        "rows 0\n",
+        "rows 1\nrow 1 01 0 aa\n",
+        "rows 1\nrow 1 01 0 bb\n",
+        "rows 2\nrow 1 01 0 bb\nrow 1 02 0 cc\n",
+    ],
+};
+
 /// A row is written, read and committed. Where the commit's sync fails, no commit is acknowledged.
 pub(crate) const NOT_ACKNOWLEDGED: Script = Script {
     lines: "a begin\na insert 1 6b31 7 616263\na get 1 6b31\na commit\n",

@@ -4,6 +4,8 @@ use Rattle.px_calls.specs.declared.call.Call.{Call}
 use Rattle.px_calls.specs.declared.call.Call.TheVariants.{Begin, Get, Hold, Fetch, Find, Scan, Insert, Update, Delete, Commit, Rollback}
 use Rattle.px_calls.specs.declared.event.Activity.TheVariants.{Writer, Sweeper, Compactor, Checkpointer}
 use Rattle.px_calls.specs.declared.event.Event.TheVariants.{Session as ByCall, Activity as ByActivity}
+use Rattle.px_calls.specs.Histories.{by, sweep}
+use Rattle.px_engine.specs.Requests.{Request, Ask, Stat as Numbers}
 use Rattle.px_script.specs.declared.line.Line.{Line}
 use Rattle.px_script.specs.declared.line.Line.TheVariants.{Step, Peek, Drain, Stat}
 use Rattle.px_script.specs.Splits.{words_of}
@@ -103,30 +105,22 @@ is_work_line (Step (ByCall session call)) = true
 is_work_line (Peek session table key) = true
 is_work_line _ = false
 
--- a session's call that is built today
-abbrev pub is_built : Call → Bool
-is_built Begin = true
-is_built (Get table key) = true
-is_built (Insert table key tag body) = true
-is_built (Update table key tag body) = true
-is_built (Delete table key) = true
-is_built Commit = true
-is_built Rollback = true
-is_built _ = false
+-- what `run` answers: a session's call, a step of the sweeper, or the numbers; a line that isn't built yet asks for nothing
+abbrev pub request_of : Line → Option Request
+request_of (Step (ByCall session call)) = Some (Ask (by session call))
+request_of (Step (ByActivity Sweeper)) = Some (Ask sweep)
+request_of Stat = Some Numbers
+request_of _ = None
 
-abbrev pub built_call : Line → Option (ℕ × Call)
-built_call (Step (ByCall session call)) = if is_built call then Some (session, call) else None
-built_call _ = None
+-- what a line asks for that `run` answers
+unfoldable pub command_line : List ℕ → Option Request
+command_line bytes = option_and_then request_of (line_of bytes)
 
--- the session and the call of a line that `run` answers; a line that isn't built yet is none
-unfoldable pub command_line : List ℕ → Option (ℕ × Call)
-command_line bytes = option_and_then built_call (line_of bytes)
+abbrev pub onto : Option Request → List Request → List Request
+onto None requests = []
+onto (Some request) requests = request ∷ requests
 
-abbrev pub onto : Option (ℕ × Call) → List (ℕ × Call) → List (ℕ × Call)
-onto None calls = []
-onto (Some call) calls = call ∷ calls
-
--- the calls of the lines before the first that is none
-unfoldable pub calls_of : List (List ℕ) → List (ℕ × Call)
-calls_of [] = []
-calls_of (bytes ∷ lines) = onto (command_line bytes) (calls_of lines)
+-- what the lines before the first that is no command ask for
+unfoldable pub requests_of : List (List ℕ) → List Request
+requests_of [] = []
+requests_of (bytes ∷ lines) = onto (command_line bytes) (requests_of lines)

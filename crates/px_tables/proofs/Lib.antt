@@ -8,3 +8,4 @@ pub mod Unlaying
 pub mod Opened
 pub mod Ordered
 pub mod Running
+pub mod Freed

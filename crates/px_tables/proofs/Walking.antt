@@ -16,10 +16,10 @@ use Rattle.px_tables.specs.Held.{Cells, HasLayout, IsKept, slot_at, table_of}
 use Rattle.px_tables.specs.Walked.{Ends, walked}
 use Rattle.px_tables.proofs.Few.{few}
 
-abbrev IsStep : List Slot → ℕ → Type 0
+abbrev pub IsStep : List Slot → ℕ → Type 0
 IsStep slots n = 1 ≤ n × n < length slots
 
-abbrev linked_at : List Slot → ℕ → Linked
+abbrev pub linked_at : List Slot → ℕ → Linked
 linked_at slots n = record { number = n; slot = slot_at slots n }
 
 pub walked_none : (most : ℕ) (slots : List Slot) → walked most slots 0 ≡ []

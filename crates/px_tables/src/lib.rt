@@ -5,7 +5,7 @@
 //! is as it was.
 //!
 //! - `table`: `Table`. `table/opening` makes one of cells that were read and found sound. `table/reading` finds a key's row and
-//!   its versions; `table/linking` prepares and lays a new version, `table/unlinking` that versions go.
+//!   its versions; `table/counting` tells how many versions there are; `table/linking` prepares and lays a new version, `table/unlinking` that versions go.
 //! - `linking`, `unlinking`: `Place`, where a key's next version goes; `Linking` and `Unlinking`, what is prepared. `versions`: `Versions`, the walk along a chain.
 //! - `laws`: a version that fits a slot is stored. `keys`: the rows that keys name. `places`: lists in which a cell stands at its number.
 //!

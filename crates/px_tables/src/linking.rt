@@ -1,12 +1,13 @@
-ghost use Rattle.std.specs.Prelude.{◌≡◌, IfOk};
+ghost use Rattle.std.specs.Prelude.{◌≡◌, ◌≤◌, length};
 ghost use Rattle.px_model.specs.declared.limits.TheConstants.{LONGEST_SHORT};
+ghost use Rattle.px_model.specs.declared.write.Write.{Write};
 ghost use Rattle.px_chain.specs.Links.{IsStored};
 ghost use Rattle.px_tables.specs.Held.{Held};
 ghost use Rattle.px_tables.specs.Linking.{FitsSlot, IsPlaceFor, IsPrepared, bytes_of_key, version_of};
 
 use px_cells::{Header, Slot, SlotState};
-use px_model::{Bytes, Write};
-use std::alloc::{AllocError, Global};
+use px_model::{Bytes, Row, Write};
+use std::alloc::Global;
 
 /// Where the next version of a key goes: the slot's number, its row pointer, the slot behind it, and the header once that number,
 /// and the row pointer of a new row, are taken.
@@ -45,32 +46,50 @@ impl Place {
     }
 
     /// The slot of the version that the transaction with the stored number `xn` writes here, where all its bytes have room in a
-    /// slot (`a_version_that_fits_is_stored`). It fails only for want of memory.
-    pub fn version(self, alloc: Global, xn: u64, write: &Write) -> Result<Slot, AllocError>
-        requires { FitsSlot LONGEST_SHORT write.now }
-        ensures { IfOk result (λ slot. slot ≡ version_of xn self.next self.row write.now) }
+    /// slot (`a_version_that_fits_is_stored`). The key and the body move into it.
+    pub fn version(self, alloc: Global, xn: u64, write: Write) -> Slot
+        requires { FitsSlot LONGEST_SHORT write }
+        ensures { result ≡ version_of xn self.next self.row write }
     {
-        let blank = Slot {
-            state: SlotState::Deletion,
+        match write {
+            Write::Put(row) => self.put(xn, row),
+            Write::Delete { table: _, key } => Slot {
+                state: SlotState::Deletion,
+                xn,
+                next: self.next,
+                row: self.row,
+                tag: 0,
+                total: 0,
+                log: 0,
+                place: 0,
+                key,
+                short: Bytes::new(alloc),
+            },
+        }
+    }
+
+    /// The slot of a row that the transaction writes.
+    fn put(self, xn: u64, row: Row) -> Slot
+        requires { length row.body ≤ LONGEST_SHORT }
+        ensures { result ≡ version_of xn self.next self.row (Write.Put row) }
+    {
+        let Row {
+            table: _,
+            key,
+            tag,
+            body,
+        } = row;
+        Slot {
+            state: SlotState::Row,
             xn,
             next: self.next,
             row: self.row,
-            tag: 0,
-            total: 0,
+            tag,
+            total: body.as_slice().len() as u32,
             log: 0,
             place: 0,
-            key: Bytes::from_slice(alloc, key_of(write))?,
-            short: Bytes::new(alloc),
-        };
-        match write {
-            Write::Put(row) => Ok(Slot {
-                state: SlotState::Row,
-                tag: row.tag,
-                total: row.body.as_slice().len() as u32,
-                short: row.body.copy()?,
-                ..blank
-            }),
-            Write::Delete { table: _, key: _ } => Ok(blank),
+            key,
+            short: body,
         }
     }
 }

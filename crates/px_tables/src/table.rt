@@ -4,6 +4,7 @@ ghost use Rattle.px_chain.specs.Sound.{Layout};
 ghost use Rattle.px_cells.specs.Unused.{free_pointer, unused_slot};
 ghost use Rattle.px_tables.specs.Held.{HasLayout, no_cells, table_of};
 
+mod counting;
 mod linking;
 mod opening;
 mod reading;

@@ -82,7 +82,7 @@ impl ShortTable {
         assert!(rt; fits(&write));
         let linking = self
             .table
-            .prepare(version.xn, &write)?
+            .prepare(version.xn, write)?
             .ok_or("the table is full")?;
         let cells = self.table.cells_of(&linking)?;
         self.table.lay(linking);

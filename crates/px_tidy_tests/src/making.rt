@@ -49,7 +49,7 @@ impl ShortTable {
     /// Links a version in front of the chain of the key of one byte.
     pub(crate) fn link(&mut self, alloc: Global, key: u8, version: Version) -> Result<(), Fail> {
         let (xn, write) = write_of(alloc, key, version)?;
-        let linking = self.table.prepare(xn, &write)?.ok_or("the table is full")?;
+        let linking = self.table.prepare(xn, write)?.ok_or("the table is full")?;
         self.table.lay(linking);
         Ok(())
     }

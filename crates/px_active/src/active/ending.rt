@@ -1,5 +1,5 @@
 ghost use Rattle.std.specs.Prelude.{◌≡◌, ◌<◌, ◌≤◌, ◌+◌, ◌^◌, ℕ, IfSome, MatchOption};
-ghost use Rattle.px_active.specs.Active.{AreReleased, HasNoWrites, IsActiveOf, IsWriterIn, commits_after, counted, end_call, end_reply, writer_in};
+ghost use Rattle.px_active.specs.Active.{AreReleased, AreStored, HasNoWrites, IsActiveOf, IsWriterIn, commits_after, counted, end_call, end_reply, writer_in};
 ghost use Rattle.px_calls.specs.Steps.{reply_of, state_after};
 ghost use Rattle.px_chain_laws.specs.Kept.{IsKept};
 ghost use Rattle.px_machine_laws.specs.Writers.{writer_of};
@@ -31,6 +31,7 @@ impl Active {
         ensures reply { (m : Machine) → IsActiveOf m self.old → result ≡ reply_of m session (end_call committed) }
         ensures active { (m : Machine) → IsKept m → IsActiveOf m self.old → IsActiveOf (state_after m session (end_call committed)) self.new }
         ensures xacts { self.new.xacts ≡ transactions.ended self.old.xacts session committed }
+        ensures stored { AreStored self.old.xacts → AreStored self.new.xacts }
         ensures commits { self.new.commits ≡ commits_after self.old session committed }
         ensures few { self.new.commits ≤ self.old.commits + 1 }
     {

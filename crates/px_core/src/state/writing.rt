@@ -11,6 +11,7 @@ ghost use Rattle.px_core.specs.Serving.{Does, Finds, HasRoom, IsSmallWrite, MayP
 use super::Kept;
 use super::reading::caller;
 use crate::CoreError;
+use px_active::NewWrite;
 use px_answers::{Asked, Writer, may_write};
 use px_appending::append_version;
 use px_calls::{Call, Reply};
@@ -18,7 +19,6 @@ use px_held::{HeldError, Prepared};
 use px_model::{MOST_VARIATIONS, Row, Session, Write};
 use px_site::Site;
 use px_tables::Place;
-use px_xacts::WriteAt;
 
 /// Who may write, and where the version goes.
 #[derive(Clone, Copy, Debug)]
@@ -67,7 +67,8 @@ impl<W: Site> Kept<W> {
         }
     }
 
-    // Notes the version, appends its frame, and lays its cells. Where the frame isn't appended the version is taken back.
+    // Notes the version, appends its frame, and lays its cells. Where the frame isn't appended the version is taken back. The key and
+    // the body move from the call into the slot.
     fn put(&mut self, session: Session, ready: Ready, call: Call) -> Result<Reply, CoreError>
         requires well { IsWell W.state self.old }
         requires whole { self.old.error ≡ None }
@@ -77,16 +78,16 @@ impl<W: Site> Kept<W> {
         let done = reply_done(&call);
         let write = write_of(call);
         let table = table_of(&write);
-        let slot = ready
-            .place
-            .version(self.alloc, ready.writer.stored, &write)?;
-        let at = WriteAt {
+        let slot = ready.place.version(self.alloc, ready.writer.stored, write);
+        let new = NewWrite {
+            session,
+            number: ready.writer.number,
             table,
             row: slot.row,
             slot: ready.place.number,
-            key: slot.key.copy()?,
+            key: slot.key.as_slice(),
         };
-        let free = self.active.write(session, ready.writer.number, at)?;
+        let free = self.active.write(self.alloc, &new)?;
         let prepared = Prepared::link(table, ready.place, slot);
         if let Err(error) = append_version(
             &mut self.site,

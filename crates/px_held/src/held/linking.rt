@@ -12,10 +12,10 @@ ghost use Rattle.px_held.specs.Serving.{HasSameForm, Serves};
 use super::Held;
 use crate::error::HeldError;
 use crate::prepared::Prepared;
-use px_cells::{CellKind, CellList};
+use px_cells::CellKind;
+use px_change::Version;
 use px_site::Site;
 use px_tables::Place;
-use std::alloc::AllocError;
 
 impl Held {
     /// Takes the memory for one more version of a key's row, and says where it goes. It changes no cell. None exactly where the
@@ -51,13 +51,20 @@ impl Held {
         number >= 1 && number as usize <= self.tables.len()
     }
 
-    /// The cells of what was prepared, for the log. It fails only for want of memory.
-    pub fn cells_of(&self, prepared: &Prepared) -> Result<CellList, AllocError>
+    /// What the frame of what was prepared carries. It takes no memory.
+    pub fn version_of<'a>(&self, prepared: &'a Prepared) -> Version<'a>
         requires { IsReady self.now prepared.now }
-        ensures { IfOk result (λ cells. (site : State) (store : Store) → Serves site self.now store
-            → cells ≡ (change_of self.now.short store (step_of prepared.now)).cells) }
+        ensures { (site : State) (store : Store) → Serves site self.now store
+            → result ≡ change_of self.now.short store (step_of prepared.now) }
     {
-        self.tables[prepared.table as usize - 1].cells_of(&prepared.linking)
+        let linking = &prepared.linking;
+        Version::new(
+            self.short,
+            prepared.table,
+            linking.header,
+            linking.number,
+            &linking.slot,
+        )
     }
 
     /// Lays what was prepared over its table. It takes no memory, and can't fail.

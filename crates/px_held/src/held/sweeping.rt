@@ -1,4 +1,4 @@
-ghost use Rattle.std.specs.Prelude.{◌≡◌, ◌&&◌, ℕ, IfErr, IfOk, IfSome};
+ghost use Rattle.std.specs.Prelude.{◌≡◌, ◌≤◌, ◌&&◌, ℕ, IfErr, IfOk, IfSome};
 ghost use Rattle.px_history.specs.Store.{Store};
 ghost use Rattle.px_site.specs.Cause.{NoneFell};
 ghost use Rattle.px_tidy.specs.Kept.{is_row};
@@ -28,6 +28,7 @@ impl Held {
             → IfOk result (GoesWith store due.now place) }
         ensures stand { (store : Store) → Serves (W.state site.old) self.old store
             → IfOk result (λ found. IfSome found (λ run. HasVersions store due.now.table due.now.row run.newer run.first run.count)) }
+        ensures few { IfOk result (λ found. IfSome found (λ run. run.count ≤ 2)) }
         ensures form { HasSameForm self.old self.new }
         ensures keeps { (store : Store) → Serves (W.state site.old) self.old store → Serves (W.state site.new) self.new store }
         ensures same { W.tells → W.state site.new ≡ W.state site.old }
@@ -68,7 +69,8 @@ fn is_row(state: SlotState) -> bool
 }
 
 fn base_run(slot: u32, next: u32) -> Option<Run>
-    ensures { result ≡ base_run slot next }
+    ensures is { result ≡ base_run slot next }
+    ensures few { IfSome result (λ run. run.count ≤ 2) }
 {
     if next == 0 {
         return None;
@@ -81,7 +83,8 @@ fn base_run(slot: u32, next: u32) -> Option<Run>
 }
 
 fn own_run(due: &Due, newer: u32, next: u32) -> Run
-    ensures { result ≡ own_run due.now.committed newer due.now.slot next }
+    ensures is { result ≡ own_run due.now.committed newer due.now.slot next }
+    ensures few { result.count ≤ 2 }
 {
     let with_base = due.committed && next != 0;
     Run {

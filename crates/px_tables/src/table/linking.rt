@@ -21,19 +21,19 @@ use std::alloc::AllocError;
 
 impl Table {
     /// Prepares the version that the transaction with the stored number `xn` writes: takes the memory for it, and changes no
-    /// cell. None exactly where the table is full. It fails only for want of memory.
-    pub fn prepare(&mut self, xn: u64, write: &Write) -> Result<Option<Linking>, AllocError>
-        requires { FitsSlot self.old.cells.short write.now }
+    /// cell. Its key and its body move there. None exactly where the table is full. It fails only for want of memory.
+    pub fn prepare(&mut self, xn: u64, write: Write) -> Result<Option<Linking>, AllocError>
+        requires { FitsSlot self.old.cells.short write }
         ensures cells { self.new.cells ≡ self.old.cells }
-        ensures full { IfOk result (λ prepared. IsNone prepared ↔ IsFull (table_of self.old.cells) (bytes_of_key write.now)) }
+        ensures full { IfOk result (λ prepared. IsNone prepared ↔ IsFull (table_of self.old.cells) (bytes_of_key write)) }
         ensures prepared { IfOk result (λ prepared. IfSome prepared (λ linking. IsPrepared self.new linking)) }
-        ensures version { IfOk result (λ prepared. IfSome prepared (λ linking. linking.slot ≡ version_of xn linking.slot.next linking.slot.row write.now)) }
+        ensures version { IfOk result (λ prepared. IfSome prepared (λ linking. linking.slot ≡ version_of xn linking.slot.next linking.slot.row write)) }
     {
         let alloc = self.allocator();
-        let Some(place) = self.place_for(key_of(write))? else {
+        let Some(place) = self.place_for(key_of(&write))? else {
             return Ok(None);
         };
-        let slot = place.version(alloc, xn, write)?;
+        let slot = place.version(alloc, xn, write);
         Ok(Some(place.link(slot)))
     }
 

@@ -18,4 +18,3 @@ returns c =
     ∙ ap (λ (b : List ℕ). b ++ c.copy_from_slice-2.new.self) c.copy_from_slice.ensures.after
     ∙ ap (λ (b : List ℕ). c.frame_header-header.result ++ b) c.copy_from_slice-2.ensures.after
     ∙ c.frame_header-header.ensures
-    ∙ ap (frame c.args.number) c.end_bytes-payload.ensures

@@ -1,9 +1,9 @@
 use Rattle.std.proofs.Common.{◌∙◌, Ok, Err, ap}
 use Rattle.px_site.specs.State.{State}
 use Rattle.px_cell_standing.specs.Found.{machine_of}
-use Rattle.px_core.specs.Core.{frames_of}
 use Rattle.px_play.specs.Input.{script_of}
-use Rattle.px_run.proofs.Scripts.{line_moments, line_untold, script_moments, script_played, tells_opening, untold_faults}
+use Rattle.px_run.specs.Running.{engine_of}
+use Rattle.px_run.proofs.Scripts.{engine_opened, line_moments, line_untold, script_moments, script_played, tells_opening, untold_faults}
 use Rattle.px_run.proofs.run_script.play_opened.Goals as goal
 
 pub returns-in-Err-clause-read_faults : goal.returns-in-Err-clause-read_faults
@@ -30,8 +30,8 @@ returns-clause-runs g c = λ tells source_tells found opens.
     let old = c.args.opened.now.core in
     let mid = c.tell.new.core in
     let told = tells_opening found c.args.opened.now.report c.as_slice.result.now (state old.site) (state mid.site) (Ok tt) (c.as_slice.ensures.text ∙ c.opened_line-line.ensures) opens.report_is (c.in_default.ensures.tells tells) in
-    script_played (ap frames_of c.tell.ensures.rest ∙ opens.frames) (ap (λ (s : State). s.now.told) told) c.tell.ensures.none_fell
-    (c.play.ensures.plays tells source_tells (machine_of found) (c.tell.ensures.works tells (machine_of found) opens.works))
+    script_played (ap (λ (s : State). s.now.told) told) c.tell.ensures.none_fell
+    (c.play.ensures.plays tells source_tells (engine_of found) (engine_opened found opens c.tell.new.core (c.tell.ensures.works tells) c.tell.ensures.rest))
 
 pub returns-clause-moments : goal.returns-clause-moments
 returns-clause-moments g c = λ tells source_tells found opens.
@@ -41,4 +41,4 @@ returns-clause-moments g c = λ tells source_tells found opens.
     let script = script_of (g.S.Source.left c.args.source.now) in
     let told = tells_opening found c.args.opened.now.report c.as_slice.result.now (state old.site) (state mid.site) (Ok tt) (c.as_slice.ensures.text ∙ c.opened_line-line.ensures) opens.report_is (c.in_default.ensures.tells tells) in
     script_moments found script (ap (λ (s : State). s.now.told) told) (line_moments state found script (Ok tt) opens.works told)
-    (c.play.ensures.moments tells source_tells (machine_of found) (c.tell.ensures.works tells (machine_of found) opens.works))
+    (c.play.ensures.moments tells source_tells (engine_of found) (engine_opened found opens mid (c.tell.ensures.works tells) c.tell.ensures.rest))

@@ -1,47 +1,40 @@
-use Rattle.std.proofs.Common.{◌≡◌, is_none, refl, sym, ap, subst, ◌∙◌}
-use Rattle.std.specs.Option.{option_copied}
-use Rattle.std.proofs.lemmas.Option.{none-some, same_Some}
+use Rattle.std.proofs.Common.{refl, ap, ◌∙◌}
 use Rattle.px_active.specs.declared.active.Active.{Active}
-use Rattle.px_active.specs.Active.{IsTaken, MayTake}
-use Rattle.px_active.proofs.Writing.{last_written, write_leaves}
-use Rattle.px_locks.specs.Holders.{holder_of}
-use Rattle.px_xacts_laws.specs.Mirrors.{key_at}
+use Rattle.px_active.specs.Active.{new_key, place_of}
+use Rattle.px_active.proofs.Writing.{given_back, one_written, same_active, write_leaves}
+use Rattle.px_xacts.specs.Transactions.{Transactions, with_write}
 use Rattle.px_active.proofs.active.Active.write.Goals as goal
 
-pub unreachable-requires : goal.unreachable-requires
-unreachable-requires c =
-    let last = last_written c.args.self.now.xacts c.add_write.new.self c.args.session c.args.at _ c.requires.room c.in_ok-add_write.ensures.ok in
-    none-some c.args.at (sym (ap option_copied c.in_default.is) ∙ c.last_write.ensures ∙ last)
-
-pub take-requires : goal.take-requires
-take-requires c =
-    let last = last_written c.args.self.now.xacts c.add_write.new.self c.args.session c.args.at _ c.requires.room c.in_ok-add_write.ensures.ok in
-    let same : c.in-Some.written.now ≡ c.args.at = same_Some _ _ (sym (ap option_copied c.in-Some.is) ∙ c.last_write.ensures ∙ last) in
-    subst (λ at. MayTake (key_at at) c.args.number c.args.self.now.locks) (sym same) c.requires.may_take
-
 pub returns-in-Ok-clause-noted : goal.returns-in-Ok-clause-noted
-returns-in-Ok-clause-noted c =
-    let last = last_written c.args.self.now.xacts c.add_write.new.self c.args.session c.args.at _ c.requires.room c.in_ok-add_write.ensures.ok in
-    let same : c.in-Some.written.now ≡ c.args.at = same_Some _ _ (sym (ap option_copied c.in-Some.is) ∙ c.last_write.ensures ∙ last) in
-    record {
-      xacts = c.in_ok-add_write.ensures.ok;
-      holders = subst (λ at. IsTaken (key_at at) c.args.number c.args.self.now.locks c.take.new.locks) same c.in-Ok.ensures.taken;
-      may_take = c.requires.may_take;
-      free_is = subst (λ at. c.in-Ok.free ≡ is_none (holder_of (key_at at) c.args.self.now.locks)) same c.in-Ok.ensures.free;
-      tickets = refl;
-      commits = refl;
-    }
+returns-in-Ok-clause-noted c = record {
+  xacts = c.in-Ok.ensures.ok ∙ ap (with_write c.args.self.now.xacts c.args.write.now.session) c.in_ok-at.ensures;
+  holders = c.in_ok-free.ensures.taken;
+  may_take = c.requires.may_take;
+  free_is = c.in_ok-free.ensures.free;
+  tickets = refl;
+  commits = refl;
+}
 
 pub returns-in-Ok-clause-active : goal.returns-in-Ok-clause-active
 returns-in-Ok-clause-active c = λ m call xact write kept is is_open own writes key answered.
-    let last = last_written c.args.self.now.xacts c.add_write.new.self c.args.session c.args.at _ c.requires.room c.in_ok-add_write.ensures.ok in
-    let same : c.in-Some.written.now ≡ c.args.at = same_Some _ _ (sym (ap option_copied c.in-Some.is) ∙ c.last_write.ensures ∙ last) in
     let new : Active = record c.args.self.now { xacts = c.add_write.new.self; locks = c.take.new.locks } in
-    write_leaves m c.args.self.now new c.args.session c.args.number call xact write c.args.at kept is is_open own writes key answered (record {
-      xacts = c.in_ok-add_write.ensures.ok;
-      holders = subst (λ at. IsTaken (key_at at) c.args.number c.args.self.now.locks c.take.new.locks) same c.in-Ok.ensures.taken;
+    write_leaves m c.args.self.now new c.args.write.now.session c.args.write.now.number call xact write (place_of c.args.write.now) kept is is_open own writes key answered (record {
+      xacts = c.in-Ok.ensures.ok ∙ ap (with_write c.args.self.now.xacts c.args.write.now.session) c.in_ok-at.ensures;
+      holders = c.in_ok-free.ensures.taken;
       may_take = c.requires.may_take;
       free_is = refl;
       tickets = refl;
       commits = refl;
     })
+
+pub returns-in-Ok-clause-may_take_back : goal.returns-in-Ok-clause-may_take_back
+returns-in-Ok-clause-may_take_back c =
+    one_written c.args.self.now.xacts c.add_write.new.self c.args.write.now.session _ _ c.requires.room c.in-Ok.ensures.ok
+
+pub returns-in-Err-clause-err : goal.returns-in-Err-clause-err
+returns-in-Err-clause-err c =
+    let new : Active = record c.args.self.now { xacts = c.add_write.new.self; locks = c.give_up.new.locks } in
+    same_active new c.args.self.now c.in-Err.ensures.err
+    (given_back (new_key c.args.write.now) c.args.write.now.number c.in_ok-free.free c.args.self.now.locks c.take.new.locks c.give_up.new.locks c.requires.may_take
+    c.in_ok-free.ensures.free c.in_ok-free.ensures.taken c.give_up.ensures)
+    refl refl

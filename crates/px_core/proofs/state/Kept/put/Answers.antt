@@ -18,25 +18,11 @@ use Rattle.px_core.proofs.Ending.{some_logged}
 use Rattle.px_core.proofs.Writing.{answered, append_ready, fits_written, header_fits, key_taken, no_memory, on_shortage, put_header, put_slot, slot_fits, small_meets, small_no_end, write_commits, write_follows, write_framed, write_logged}
 use Rattle.px_core.proofs.state.Kept.put.Goals as goal
 
-pub returns-in_err-slot : goal.returns-in_err-slot
-returns-in_err-slot g c =
-    let p = err_from_is_err_and c.from_residual.result c.from_residual.ensures.1 in
-    rw (p.1, p.2)
-    (no_memory g.W.Site.tells g.W.Site.state g.W.Site.counts c.args.session c.args.call c.args.self.now c.args.self.now.active
-    (λ m works. MayPut m (last_store works.life) c.args.session c.args.call c.args.ready) refl c.requires.well c.requires.whole c.requires.room.small)
-
-pub returns-in_err-copy : goal.returns-in_err-copy
-returns-in_err-copy g c =
-    let p = err_from_is_err_and c.from_residual-in_err-copy.result c.from_residual-in_err-copy.ensures.1 in
-    rw (p.1, p.2)
-    (no_memory g.W.Site.tells g.W.Site.state g.W.Site.counts c.args.session c.args.call c.args.self.now c.args.self.now.active
-    (λ m works. MayPut m (last_store works.life) c.args.session c.args.call c.args.ready) refl c.requires.well c.requires.whole c.requires.room.small)
-
 pub returns-in_err-free : goal.returns-in_err-free
 returns-in_err-free g c =
-    let p = err_from_is_err_and c.from_residual-in_err-free.result c.from_residual-in_err-free.ensures.1 in
+    let p = err_from_is_err_and c.from_residual.result c.from_residual.ensures.1 in
     rw (p.1, p.2)
-    (no_memory g.W.Site.tells g.W.Site.state g.W.Site.counts c.args.session c.args.call c.args.self.now c.write-2.new.self
+    (no_memory g.W.Site.tells g.W.Site.state g.W.Site.counts c.args.session c.args.call c.args.self.now c.write.new.self
     (λ m works. MayPut m (last_store works.life) c.args.session c.args.call c.args.ready) c.in_err-free.ensures.err c.requires.well c.requires.whole c.requires.room.small)
 
 pub append_version-requires-clause-ready : goal.append_version-requires-clause-ready
@@ -45,8 +31,8 @@ append_version-requires-clause-ready g c =
     let w = c.write_of-write.result in
     let is = c.write_of-write.ensures in
     let room = c.requires.room in
-    append_ready g.W.Site.state c.args.session c.args.call c.args.ready old w c.in_ok-slot.slot is room.small
-    (fits_written old c.args.session c.args.call c.args.ready w room is) c.requires.well c.in_ok-slot.ensures
+    append_ready g.W.Site.state c.args.session c.args.call c.args.ready old w c.version-slot.result is room.small
+    (fits_written old c.args.session c.args.call c.args.ready w room is) c.requires.well c.version-slot.ensures
     room c.table_of-table.result c.table_of-table.ensures c.link-prepared.result c.link-prepared.ensures.step (c.link-prepared.ensures.ready old.held)
 
 pub returns-in-Err : goal.returns-in-Err
@@ -60,14 +46,14 @@ returns-in-Err g c =
     let ready = c.args.ready in
     let room = c.requires.room in
     let w = c.write_of-write.result in
-    let slot = c.in_ok-slot.slot in
+    let slot = c.version-slot.result in
     let is = c.write_of-write.ensures in
     let fits = fits_written old session call ready w room is in
     let prepared = c.link-prepared.result in
-    let at : WriteAt = record { table = c.table_of-table.result; row = slot.row; slot = ready.place.number; key = c.in_ok-copy.field-0 } in
+    let at : WriteAt = record { table = c.table_of-table.result; row = slot.row; slot = ready.place.number; key = c.as_slice.result.now } in
     let is_at : at ≡ record { table = (key_written w).0; row = slot.row; slot = ready.place.number; key = slot.key } =
-    ap (λ (t : ℕ). record { table = t; row = slot.row; slot = ready.place.number; key = c.in_ok-copy.field-0 }) c.table_of-table.ensures
-    ∙ ap (λ (key : List ℕ). record { table = (key_written w).0; row = slot.row; slot = ready.place.number; key = key }) c.in_ok-copy.ensures in
+    ap (λ (t : ℕ). record { table = t; row = slot.row; slot = ready.place.number; key = c.as_slice.result.now }) c.table_of-table.ensures
+    ∙ ap (λ (key : List ℕ). record { table = (key_written w).0; row = slot.row; slot = ready.place.number; key = key }) c.as_slice.ensures in
     let linked = c.link-prepared.ensures.step in
     let step_is : step_of prepared ≡ Step.put (key_written w).0 ready.place.header slot =
     linked ∙ ap (λ (t : ℕ). Step.put t ready.place.header slot) c.table_of-table.ensures in
@@ -96,9 +82,9 @@ returns-in-Err g c =
     rw (c.after_log_error.ensures.keeps, c.after_log_error.ensures.answer)
     (fails_does tells state counts session call old new Holds c.requires.well error fails (on_shortage error (small_no_end call room.small _)) (small_meets call room.small)
     (λ t m works may. some_logged _ (write_logged m session call may.xact room.small may.is_open
-    (answered state session call ready old w slot is room.small fits c.requires.well c.in_ok-slot.ensures m works may)))
+    (answered state session call ready old w slot is room.small fits c.requires.well c.version-slot.ensures m works may)))
     (λ t m works may. stands_on tells state session call old new (Step.put (key_written w).0 ready.place.header slot) t m works
-    (write_follows state session call ready old w slot is room.small fits c.requires.well c.in_ok-slot.ensures m works may places its_slot)
+    (write_follows state session call ready old w slot is room.small fits c.requires.well c.version-slot.ensures m works may places its_slot)
     (subst (λ (s : Step). LastsOn tells s (opening_of state old) (opening_of state new)) step_is c.append_version.ensures.moments)))
 
 pub returns : goal.returns
@@ -112,14 +98,14 @@ returns g c =
     let ready = c.args.ready in
     let room = c.requires.room in
     let w = c.write_of-write.result in
-    let slot = c.in_ok-slot.slot in
+    let slot = c.version-slot.result in
     let is = c.write_of-write.ensures in
     let fits = fits_written old session call ready w room is in
     let prepared = c.link-prepared.result in
-    let at : WriteAt = record { table = c.table_of-table.result; row = slot.row; slot = ready.place.number; key = c.in_ok-copy.field-0 } in
+    let at : WriteAt = record { table = c.table_of-table.result; row = slot.row; slot = ready.place.number; key = c.as_slice.result.now } in
     let is_at : at ≡ record { table = (key_written w).0; row = slot.row; slot = ready.place.number; key = slot.key } =
-    ap (λ (t : ℕ). record { table = t; row = slot.row; slot = ready.place.number; key = c.in_ok-copy.field-0 }) c.table_of-table.ensures
-    ∙ ap (λ (key : List ℕ). record { table = (key_written w).0; row = slot.row; slot = ready.place.number; key = key }) c.in_ok-copy.ensures in
+    ap (λ (t : ℕ). record { table = t; row = slot.row; slot = ready.place.number; key = c.as_slice.result.now }) c.table_of-table.ensures
+    ∙ ap (λ (key : List ℕ). record { table = (key_written w).0; row = slot.row; slot = ready.place.number; key = key }) c.as_slice.ensures in
     let linked = c.link-prepared.ensures.step in
     let step_is : step_of prepared ≡ Step.put (key_written w).0 ready.place.header slot =
     linked ∙ ap (λ (t : ℕ). Step.put t ready.place.header slot) c.table_of-table.ensures in
@@ -128,7 +114,7 @@ returns g c =
     let new : Kept g.row.W.Denot = record old {
       site = c.append_version.new.site;
       held = c.append_version.new.held;
-      active = c.write-2.new.self;
+      active = c.write.new.self;
       log = c.append_version.new.log;
     } in
     let step = Step.put (key_written w).0 ready.place.header slot in
@@ -143,13 +129,13 @@ returns g c =
     } in
     let noted = c.in_ok-free.ensures.noted in
     framed_does tells state counts session call old new (λ m works. MayPut m (last_store works.life) session call ready) step c.reply_done-done.result appends
-    c.requires.well c.requires.whole (let count = c.write-2.ensures.commits in omega (arith, count))
+    c.requires.well c.requires.whole (let count = c.write.ensures.commits in omega (arith, count))
     (λ t m works may. (
-      write_framed state session call ready old w slot is room.small fits c.requires.well c.in_ok-slot.ensures m works may c.reply_done-done.result new at places its_slot
+      write_framed state session call ready old w slot is room.small fits c.requires.well c.version-slot.ensures m works may c.reply_done-done.result new at places its_slot
           c.reply_done-done.ensures
           (c.in_ok-free.ensures.active m call may.xact w works.works.kept works.active may.is_open may.number is
-          (key_taken state session call ready old w slot is room.small fits c.requires.well c.in_ok-slot.ensures at is_at)
-          (answered state session call ready old w slot is room.small fits c.requires.well c.in_ok-slot.ensures m works may))
+          (key_taken state session call ready old w slot is room.small fits c.requires.well c.version-slot.ensures at is_at)
+          (answered state session call ready old w slot is room.small fits c.requires.well c.version-slot.ensures m works may))
           is_at noted.xacts,
-      write_commits state session call ready old w slot is room.small fits c.requires.well c.in_ok-slot.ensures m works may,
+      write_commits state session call ready old w slot is room.small fits c.requires.well c.version-slot.ensures m works may,
     ))

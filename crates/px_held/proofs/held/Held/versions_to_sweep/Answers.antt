@@ -31,7 +31,7 @@ returns-then-keeps_row-clause-goes g c = λ store place serves at.
     let version : Slot = c.slot-version.result.now in
     let is : version ≡ (store.tables due.table).slot due.slot =
     c.slot-version.ensures ∙ ap (λ (t : Table). t.slot due.slot) (sym (table_served site c.args.self.now store due.table serves c.in_ok-slots.ensures.table)) in
-    subst (λ (found : Option Run). GoesWith store due place found) (sym c.base_run.ensures)
+    subst (λ (found : Option Run). GoesWith store due place found) (sym c.base_run.ensures.is)
     (base_goes_with c.args.self.now.short store due version ((served site c.args.self.now store serves).sound due.table) is
     (sym c.keeps_row.ensures ∙ c.if-keeps_row.true) place at)
 
@@ -42,7 +42,7 @@ returns-then-keeps_row-clause-stand g c = λ store serves.
     let version : Slot = c.slot-version.result.now in
     let same = sym (table_served site c.args.self.now store due.table serves c.in_ok-slots.ensures.table) in
     let is : version ≡ (store.tables due.table).slot due.slot = c.slot-version.ensures ∙ ap (λ (t : Table). t.slot due.slot) same in
-    subst (λ (found : Option Run). IfSome found (λ run. HasVersions store due.table due.row run.newer run.first run.count)) (sym c.base_run.ensures)
+    subst (λ (found : Option Run). IfSome found (λ run. HasVersions store due.table due.row run.newer run.first run.count)) (sym c.base_run.ensures.is)
     (base_stand c.args.self.now.short store due version ((served site c.args.self.now store serves).sound due.table) is
     (sym c.keeps_row.ensures ∙ c.if-keeps_row.true) (subst (λ (t : Table). due.slot ≤ t.header.slots) same c.in_ok-slots.ensures.within))
 
@@ -54,7 +54,7 @@ returns-in-Some-clause-goes g c = λ store place serves at.
     let is : version ≡ (store.tables due.table).slot due.slot =
     c.slot-version.ensures ∙ ap (λ (t : Table). t.slot due.slot) (sym (table_served site c.args.self.now store due.table serves c.in_ok-slots.ensures.table)) in
     let found = sym (c.newer_of.ensures (store.layouts due.table) (layout_served site c.args.self.now store due.table serves c.in_ok-table.ensures.table)) ∙ c.in-Some.is in
-    subst (λ (run : Run). IsRunOf ((store.layouts due.table).chain due.row) (gone_from store due place) (gone_count store due place) run) (sym c.own_run.ensures)
+    subst (λ (run : Run). IsRunOf ((store.layouts due.table).chain due.row) (gone_from store due place) (gone_count store due place) run) (sym c.own_run.ensures.is)
     (own_goes_with c.args.self.now.short store due version ((served site c.args.self.now store serves).sound due.table) is
     (sym c.keeps_row.ensures ∙ c.if-keeps_row.false) c.in-Some.newer found place at)
 
@@ -66,7 +66,7 @@ returns-in-Some-clause-stand g c = λ store serves.
     let same = sym (table_served site c.args.self.now store due.table serves c.in_ok-slots.ensures.table) in
     let is : version ≡ (store.tables due.table).slot due.slot = c.slot-version.ensures ∙ ap (λ (t : Table). t.slot due.slot) same in
     let found = sym (c.newer_of.ensures (store.layouts due.table) (layout_served site c.args.self.now store due.table serves c.in_ok-table.ensures.table)) ∙ c.in-Some.is in
-    subst (λ (run : Run). HasVersions store due.table due.row run.newer run.first run.count) (sym c.own_run.ensures)
+    subst (λ (run : Run). HasVersions store due.table due.row run.newer run.first run.count) (sym c.own_run.ensures.is)
     (own_stand c.args.self.now.short store due version ((served site c.args.self.now store serves).sound due.table) is c.in-Some.newer found
     (subst (λ (t : Table). IsUsedRow t due.row) (sym (table_served site c.args.self.now store due.table serves c.in_ok-table.ensures.table)) c.in_ok-table.ensures.used))
 
