@@ -1,4 +1,5 @@
 pub mod Calls
+mod Counting
 mod Ending
 pub mod Sweeping
 mod Writing

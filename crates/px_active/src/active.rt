@@ -9,6 +9,7 @@ ghost use Rattle.px_model.specs.Machine.{Machine, fresh};
 ghost use Rattle.px_xacts.specs.Transactions as transactions;
 ghost use Rattle.px_xacts_laws.specs.Mirrors.{begun_reply};
 
+mod counting;
 mod ending;
 mod sweeping;
 mod writing;

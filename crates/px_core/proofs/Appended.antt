@@ -1,11 +1,12 @@
 -- A frame more on the log of a core, and one that couldn't be appended.
-use Rattle.std.proofs.Common.{◌≡◌, ◌≢◌, ℕ, ◌+◌, ◌≤◌, ◌<◌, Bool, cond, true, List, [], ◌∷◌, length, Option, Some, None, Ok, Err, refl, sym, ap, subst, ◌∙◌, inl, inr, arith}
+use Rattle.std.proofs.Common.{◌≡◌, ◌≢◌, ℕ, ◌+◌, ◌≤◌, ◌<◌, Bool, cond, true, false, List, [], ◌∷◌, length, Option, Some, None, Ok, Err, refl, sym, ap, subst, ◌∙◌, inl, inr, arith}
 use Rattle.std.specs.Prelude.{IsErrOf, nat_lt, unwrap_or}
 use Rattle.std.proofs.lemmas.Bool.{cases_Bool, ltb-false, ltb-true}
-use Rattle.px_active.specs.Active.{IsActiveOf}
+use Rattle.px_active.specs.Active.{AreStored, IsActiveOf}
 use Rattle.px_appending.specs.Appending.{GoesOn, LastsOn, MayGoOn}
 use Rattle.px_log.proofs.Touching.{last_moment}
 use Rattle.px_log.specs.Touching.{TouchesLog}
+use Rattle.px_calls.specs.Histories.{by}
 use Rattle.px_calls.specs.declared.call.Call.{Call}
 use Rattle.px_calls.specs.declared.reply.Reply.{Reply}
 use Rattle.px_calls.specs.Steps.{reply_of, state_after}
@@ -13,6 +14,7 @@ use Rattle.px_cell_laws.specs.Locating.{AreWrittenAt}
 use Rattle.px_cell_standing.proofs.Going.{empty_still, follow_names}
 use Rattle.px_cell_standing.specs.Found.{CanBeFound}
 use Rattle.px_cell_standing.specs.Naming.{IsOneVersion}
+use Rattle.px_engine.specs.Frames.{syncs}
 use Rattle.px_held.proofs.Serving.{anywhere}
 use Rattle.px_held.specs.Serving.{HeldTables, Serves}
 use Rattle.px_history.specs.Steps.{Step, after_step}
@@ -40,14 +42,14 @@ use Rattle.px_tidying.specs.Opening.{HasLife, HasStore}
 use Rattle.px_working.proofs.Grown.{last_more}
 use Rattle.px_working.specs.Follows.{Follows, last_store, with_step}
 use Rattle.px_working.specs.Works.{Works}
-use Rattle.px_core.specs.Core.{IsWell, MayMeet, UnlessEnd, opening_of}
+use Rattle.px_core.specs.Core.{IsWell, MayMeet, UnlessEnd, durable_of, frames_of, opening_of}
 use Rattle.px_core.specs.Errors.{IsPassing, kept_after, of_log}
 use Rattle.px_core.specs.Serving.{Does}
 use Rattle.px_core.specs.Working.{FindsFull, LeavesAtFault, Refuses, StandsWithin, WorksFor}
 use Rattle.px_core.specs.declared.error.CoreError.TheVariants.{LogFull}
 use Rattle.px_core.specs.declared.state.Kept.{Kept}
 use Rattle.px_core.proofs.Crashing.{each_stands}
-use Rattle.px_core.proofs.Still.{Still, before_still}
+use Rattle.px_core.proofs.Still.{Still, before_still, same_stored}
 
 -- ---- the log's room
 
@@ -141,6 +143,7 @@ pub record Appends {W : Type 0} (tells : Type 0) (state : W → State) (counts :
   pub moments : LastsOn tells step (opening_of state old) (opening_of state new)
   pub touches : tells → TouchesLog 1 (state old.site) (state new.site)
   pub frames : new.log.frames ≡ old.log.frames + 1
+  pub durable : new.log.durable ≡ old.log.durable
   pub room : old.log.frames < most_frames
   pub none_fell : NoneFell (counts old.site) (counts new.site)
 
@@ -159,11 +162,12 @@ pub record IsFramed {W : Type 0} (state : W → State) (session : ℕ) (call : C
 -- one frame, which no sync follows
 pub framed_does : {W : Type 0} (tells : Type 0) (state : W → State) (counts : W → Counts) (session : ℕ) (call : Call) (old new : Kept W)
     (Holds : (m : Machine) → WorksFor state old m → Type 0) (step : Step) (reply : Reply) → Appends tells state counts step old new → IsWell state old
-    → new.error ≡ None → new.active.commits ≤ old.active.commits + 1
+    → new.error ≡ None → new.active.commits ≤ old.active.commits + 1 → (AreStored old.active.xacts → AreStored new.active.xacts)
+    → ((m : Machine) → syncs m (by session call) ≡ false)
     → (tells → (m : Machine) (works : WorksFor state old m) → Holds m works
     → IsFramed state session call old new step m works reply × (commits (state_after m session call) ≡ commits m))
     → Does tells state counts session call old new Holds (Ok reply)
-framed_does {W} tells state counts session call old new Holds step reply appends well whole count framed = record {
+framed_does {W} tells state counts session call old new Holds step reply appends well whole count keeps quiet framed = record {
   answered = λ t m works holds.
       let is = (framed t m works holds).0 in
       let same = (framed t m works holds).1 in
@@ -177,6 +181,7 @@ framed_does {W} tells state counts session call old new Holds step reply appends
             (found_with tells state session call old new step t m works is.follows is.one_version is.writer
             (last_others state old new (others_on tells state old new appends.touches t m works)));
         frames = omega (arith, appends.frames, is.one);
+        durable = appends.durable ∙ sym (ap (λ (b : Bool). cond b (frames_of old + length (logged m session call)) (durable_of old)) (quiet m));
         room = λ full. absurd (omega (arith, full, appends.room));
       };
   moments = λ t m works holds. stands_on tells state session call old new step t m works (framed t m works holds).0.follows appends.moments;
@@ -189,6 +194,7 @@ framed_does {W} tells state counts session call old new Holds step reply appends
     store = after_step well.store step;
     has = appends.store well.store well.has;
     few = omega (arith, well.few, count, appends.frames);
+    stored = keeps well.stored;
   };
   none_fell = appends.none_fell;
 }
@@ -234,6 +240,7 @@ module _ {W : Type 0} (tells : Type 0) (state : W → State) (counts : W → Cou
       short = rw (fails.held, fails.log) well.has.short;
     };
     few = rw (fails.active, fails.log) well.few;
+    stored = same_stored old.active new.active fails.active well.stored;
   }
 
   write_fault : (fault : Fault) → fault ≡ Write → new.error ≡ Some (SiteFault fault) → LeavesAtFault tells state fault old new

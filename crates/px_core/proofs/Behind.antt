@@ -1,11 +1,13 @@
 -- A call behind another one that only read.
-use Rattle.std.proofs.Common.{◌≡◌, ℕ, ◌+◌, ◌≤◌, length, Result, Ok, Err, sym, ap, subst, ◌∙◌, inl, inr, arith}
+use Rattle.std.proofs.Common.{◌≡◌, ℕ, ◌+◌, ◌≤◌, cond, length, Result, Ok, Err, sym, ap, subst, ◌∙◌, inl, inr, arith}
 use Rattle.std.specs.Prelude.{IfErr, IfOk}
+use Rattle.px_calls.specs.Histories.{by}
 use Rattle.px_calls.specs.declared.call.Call.{Call}
 use Rattle.px_calls.specs.declared.call.Call.TheVariants.{Begin, Get, Hold, Fetch, Find, Scan, Insert, Update, Delete, Commit, Rollback}
 use Rattle.px_calls.specs.declared.reply.Reply.{Reply}
 use Rattle.px_calls.specs.Steps.{state_after}
 use Rattle.px_cell_standing.specs.Images.{StandsBetween}
+use Rattle.px_engine.specs.Frames.{syncs}
 use Rattle.px_log.specs.Log.{Log}
 use Rattle.px_logged.specs.Logged.{logged}
 use Rattle.px_model.specs.Machine.{Machine, commits}
@@ -38,6 +40,7 @@ module _ {W : Type 0} (tells : Type 0) (state : W → State) (counts : W → Cou
     reply_is = answers.reply_is;
     works = answers.works;
     frames = answers.frames ∙ ap (λ (n : ℕ). n + length (logged m session call)) frames;
+    durable = answers.durable ∙ ap (λ (l : Log). cond (syncs m (by session call)) (l.frames + length (logged m session call)) l.durable) still.log;
     room = λ full. answers.room (omega (arith, full, frames));
   }
 
@@ -45,6 +48,7 @@ module _ {W : Type 0} (tells : Type 0) (state : W → State) (counts : W → Cou
   before_behind before = record {
     error = before.error ∙ still.error;
     frames = before.frames ∙ frames;
+    durable = before.durable ∙ ap (λ (l : Log). l.durable) still.log;
     site = λ t. before.site t ∙ still.same t;
     works = λ t m works. before.works t m (later_works t m works);
   }

@@ -3,7 +3,7 @@
 //!
 //! - `xacts`: `Xacts` and its calls. A transaction begins, writes and ends; `horizon` is how far its snapshots let the
 //!   sweeper go, and `due` and `swept` take it there; `low` and `floor` say from where on a restart needs the log;
-//!   `standing` says what became of the transaction that wrote a slot.
+//!   `standing` says what became of the transaction that wrote a slot; `counting` tells how many are open, and how many writes wait.
 //! - `transaction`: what is known of an open transaction, of one that ended, and of a write that isn't swept.
 //! - `write`: where a write stands. `answers`: what a begin is answered, and what is due.
 //! - `laws`: nothing that the low mark is kept for lies below it.

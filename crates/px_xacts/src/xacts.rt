@@ -5,6 +5,7 @@ ghost use Rattle.px_xacts.specs.Sound.{IsOpen};
 ghost use Rattle.px_xacts.specs.Transactions.{fresh, open_of};
 
 mod beginning;
+mod counting;
 mod ending;
 mod low;
 mod standing;
