@@ -1,8 +1,9 @@
 -- Which numbers are named, and that this goes on with each step.
-use Rattle.std.proofs.Common.{◌≡◌, ℕ, zero, suc, ◌+◌, ◌<◌, ◌≤◌, All, List, [], ◌∷◌, ◌++◌, drop, length, map, take, sym, subst, arith, ⊎_elim}
-use Rattle.std.proofs.lemmas.List.Elements.{All-append, All-cons, All-head, All-nil, All-tail, All-weaker}
+use Rattle.std.proofs.Common.{◌≡◌, ℕ, zero, suc, ◌+◌, ◌<◌, ◌≤◌, All, List, [], ◌∷◌, ◌++◌, drop, length, map, take, refl, sym, subst, arith, ⊎_elim}
+use Rattle.std.proofs.lemmas.List.Elements.{All-append, All-cons, All-drop, All-head, All-nil, All-same, All-tail, All-take, All-weaker}
 use Rattle.px_beginning.proofs.Steps.{IsCounted, last_grown}
 use Rattle.px_beginning.specs.Numbers.{IsUnnamed}
+use Rattle.px_cell_laws.proofs.Cutting.{left_mapped}
 use Rattle.px_cells.specs.declared.header.Header.{Header}
 use Rattle.px_cells.specs.declared.slot.Slot.{Slot}
 use Rattle.px_change.specs.declared.change.Change.{Change}
@@ -12,7 +13,7 @@ use Rattle.px_history.specs.Steps.{IsStep, MayPut, MayUnlink, Step, after_put, a
 use Rattle.px_history.specs.Store.{Store, versions_from}
 use Rattle.px_history.specs.Written.{change_of, first_writer, writer_of}
 use Rattle.px_life.specs.Found.{AreBelow}
-use Rattle.px_life.specs.Life.{Life}
+use Rattle.px_life.specs.Life.{Life, grown}
 use Rattle.px_model.specs.Machine.{Machine}
 use Rattle.px_restart.specs.declared.restart.Restart.{Restart}
 use Rattle.px_shown.proofs.Changes.{link_changes, link_stays_sound, unlink_changes, unlink_stays_sound}
@@ -22,7 +23,7 @@ use Rattle.px_shown.proofs.Told.{Chains, IsChanged, here_or_away}
 use Rattle.px_shown.specs.Changes.{left_of}
 use Rattle.px_shown.specs.Parts.{Parts}
 use Rattle.px_shown.specs.Tables.{AreSound, Layouts, Tables, slots_of_row}
-use Rattle.px_working.specs.Follows.{last_store, with_step}
+use Rattle.px_working.specs.Follows.{last_store, swept_change, with_step, with_sweep}
 use Rattle.px_cell_standing.specs.Found.{NamesNumbers}
 use Rattle.px_cell_standing.specs.Naming.{IsOneVersion}
 
@@ -73,15 +74,28 @@ module _ (n : ℕ) (old new : Chains) (t row : ℕ) (key : List ℕ) (slots : Li
       (λ (away : u ≡ t → q ≡ row → ⊥). same_below n (new u q) (old u q) (sym (is.away u q away)) (below u q))
       (here_or_away u q t row)
 
--- ---- one version goes
+-- ---- versions go
 
-left_below : (n : ℕ) (f : ℕ → Slot) (chain : List ℕ) (from : ℕ) → All (IsBelow n) (map f chain) → All (IsBelow n) (map f (left_of chain from 1))
-left_below n f [] zero below = All-nil (IsBelow n)
-left_below n f [] (suc from) below = All-nil (IsBelow n)
-left_below n f (place ∷ chain) zero below = All-tail (IsBelow n) (f place) (map f chain) below
-left_below n f (place ∷ chain) (suc from) below =
-    All-cons (IsBelow n) (f place) (map f (left_of chain from 1)) (All-head (IsBelow n) (f place) (map f chain) below)
-    (left_below n f chain from (All-tail (IsBelow n) (f place) (map f chain) below))
+left_below : (n : ℕ) (f : ℕ → Slot) (chain : List ℕ) (from count : ℕ) → All (IsBelow n) (map f chain) → All (IsBelow n) (map f (left_of chain from count))
+left_below n f chain from count below =
+    let slots = map f chain in
+    All-same (IsBelow n) (map f (left_of chain from count)) (left_of slots from count) (left_mapped f chain from count)
+    (All-append (IsBelow n) (take from slots) (drop count (drop from slots)) (All-take (IsBelow n) from slots below)
+    (All-drop (IsBelow n) count (drop from slots) (All-drop (IsBelow n) from slots below)))
+
+-- what is left of the versions is below what all were
+pub unlinked_below : (n short : ℕ) (store : Store) (t row from count : ℕ) → AreSound short store.tables store.layouts → MayUnlink store t row from count
+    → AreBelow n store.tables store.layouts → let after = after_unlink store t row from count in AreBelow n after.tables after.layouts
+unlinked_below n short store t row from count sound may below u q used =
+    let after = after_unlink store t row from count in
+    let chain = (store.layouts t).chain row in
+    let was = in_chains n short store.tables store.layouts sound below in
+    later_below n (chains_of store.tables store.layouts) (chains_of after.tables after.layouts) t row (key_of (store.tables t) row)
+    (map (store.tables t).slot (left_of chain from count))
+    (unlink_changes short store.tables store.layouts t row from count sound may.used may.some may.within) was
+    (left_below n (store.tables t).slot chain from count (was t row)) u q
+
+-- ---- one version goes
 
 whole_below : (n : ℕ) (f : ℕ → Slot) (chain : List ℕ) (from : ℕ) → from + 1 ≤ length chain → first_writer (take 1 (drop from (map f chain))) < n
     → All (IsBelow n) (map f (left_of chain from 1)) → All (IsBelow n) (map f chain)
@@ -136,9 +150,7 @@ unlink_names short store t row from sound may =
     let old = chains_of store.tables store.layouts in
     let new = chains_of after.tables after.layouts in
     record {
-      forth = λ n past below u q used.
-          let was = in_chains n short store.tables store.layouts sound below in
-          later_below n old new t row key left changes was (left_below n (store.tables t).slot chain from (was t row)) u q;
+      forth = λ n past below. unlinked_below n short store t row from 1 sound may below;
       back = λ n past below u q used.
           earlier_below n old new t row key left changes (in_chains n short after.tables after.layouts stays below)
           (λ its. whole_below n (store.tables t).slot chain from may.within past its) u q;
@@ -187,6 +199,29 @@ unnamed_rises restart changes tables layouts n more rose unnamed = record {
   versions = below_rises n more tables layouts rose unnamed.versions;
 }
 
+-- A frame more, which names a number that was given: where the versions after its step are below what those before it and the frame's number
+-- are below, all numbers are known.
+pub frame_names : (m later : Machine) (life : Life) (restart : Restart) (step : Step) (change : Change) → IsCounted life
+    → let store = last_store life in
+    let after = after_step store step in
+    later.base ≡ m.base → m.begun ≤ later.begun → change.xn ≤ m.base + later.begun
+    → ((n : ℕ) → change.xn < n → AreBelow n store.tables store.layouts → AreBelow n after.tables after.layouts)
+    → NamesNumbers m life restart
+    → let next = grown life step change in
+    IsUnnamed restart next.changes (last_store next).tables (last_store next).layouts (later.base + later.begun + 1)
+frame_names m later life restart step change count base begun given forth names =
+    let store = last_store life in
+    let upto = later.base + later.begun + 1 in
+    record {
+      restart_is = omega (arith, names.to.restart_is, base, begun);
+      frames = All-append (IsEarlier upto) life.changes (change ∷ [])
+          (All-weaker (IsEarlier (m.base + m.begun + 1)) (IsEarlier upto) (λ c less. omega (arith, less, base, begun)) life.changes names.to.frames)
+          (All-cons (IsEarlier upto) change [] (omega (arith, given, base)) (All-nil (IsEarlier upto)));
+      versions = subst (λ (s : Store). AreBelow upto s.tables s.layouts) (sym (last_grown life step change count))
+          (forth upto (omega (arith, given, base))
+          (below_rises (m.base + m.begun + 1) upto store.tables store.layouts (omega (arith, base, begun)) names.to.versions));
+    }
+
 -- the machine's numbers went on, and the step names one of them
 pub names_step : (parts : Parts) (m later : Machine) (life : Life) (restart : Restart) (step : Step) → IsCounted life
     → let store = last_store life in
@@ -202,32 +237,32 @@ names_step parts m later life restart step count sound may one base begun writer
         versions = same.back next (last_of next life.changes change unnamed.frames) after;
       }) in
       omega (arith, was, base);
-  to = record {
-    restart_is = omega (arith, names.to.restart_is, base, begun);
-    frames = All-append (IsEarlier upto) life.changes (change ∷ [])
-        (All-weaker (IsEarlier (m.base + m.begun + 1)) (IsEarlier upto) (λ c less. omega (arith, less, base, begun)) life.changes names.to.frames)
-        (All-cons (IsEarlier upto) change [] (omega (arith, writer, base)) (All-nil (IsEarlier upto)));
-    versions = subst (λ (s : Store). AreBelow upto s.tables s.layouts) (sym after_is)
-        (same.forth upto (omega (arith, writer, base))
-        (below_rises (m.base + m.begun + 1) upto store.tables store.layouts (omega (arith, base, begun)) names.to.versions));
-  };
+  to = frame_names m later life restart step change count base begun writer same.forth names;
 }
   where
-    store : Store
-    store = last_store life
-
     change : Change
     change = change_of restart.short (last_store life) step
 
-    upto : ℕ
-    upto = later.base + later.begun + 1
-
-    after_is : last_store (with_step restart.short life step) ≡ after_step (last_store life) step
-    after_is = last_grown life step (change_of restart.short (last_store life) step) count
-
     of_after : (next : ℕ) → AreBelow next (last_store (with_step restart.short life step)).tables (last_store (with_step restart.short life step)).layouts
         → AreBelow next (after_step (last_store life) step).tables (after_step (last_store life) step).layouts
-    of_after next below = subst (λ (s : Store). AreBelow next s.tables s.layouts) after_is below
+    of_after next below = subst (λ (s : Store). AreBelow next s.tables s.layouts) (last_grown life step change count) below
 
     same : NamesSame (last_store life) (after_step (last_store life) step) (writer_of (last_store life) step)
     same = step_names parts restart.short (last_store life) step sound may one
+
+-- ---- a sweep
+
+-- the frame of an unlink that names any number past the base that was given
+pub sweep_names : (m : Machine) (life : Life) (restart : Restart) (t row from count xn : ℕ) → IsCounted life
+    → let store = last_store life in
+    AreSound restart.short store.tables store.layouts → MayUnlink store t row from count → m.base ≤ xn → xn ≤ m.base + m.begun
+    → NamesNumbers m life restart → NamesNumbers m (with_sweep restart.short life (Step.unlink t row from count) xn) restart
+sweep_names m life restart t row from count xn counted sound may past given names =
+    let store = last_store life in
+    let step = Step.unlink t row from count in
+    let change = swept_change restart.short store step xn in
+    record {
+      from = λ next unnamed. let less : xn < next = last_of next life.changes change unnamed.frames in omega (arith, less, past);
+      to = frame_names m m life restart step change counted refl (omega arith) given
+          (λ n less. unlinked_below n restart.short store t row from count sound may) names;
+    }

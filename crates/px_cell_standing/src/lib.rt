@@ -7,7 +7,7 @@
 //! - `laws`: files stand for one store, in which one thing is found; what stands can be found, and what is found stands; what a crash
 //!   leaves of a settled site is settled, also where a run has touched its own files since; a site on which a machine's store lasts is a
 //!   settled store with all that the machine has committed; and what is found in a store that was just made.
-//! - `calls`: what is left can be found from the opening on, call by call.
+//! - `calls`: what is left can be found from the opening on, call by call and sweep by sweep.
 //! - `moments`: what a store stands for stays while its files are synced, its log is cut, and something is told.
 #![tactic(auto)]
 

@@ -2,7 +2,7 @@ use Rattle.std.proofs.Common.{◌+◌, arith}
 use Rattle.px_calls.specs.declared.call.Call.TheVariants.{Commit, Rollback}
 use Rattle.px_history.specs.Steps.{Step}
 use Rattle.px_model.specs.Machine.{commits}
-use Rattle.px_cell_standing.proofs.Going.{call_names, empty_still, follow_names}
+use Rattle.px_cell_standing.proofs.Going.{call_names, empty_still, follow_names, follow_sweep_names, swept_names}
 use Rattle.px_cell_standing.proofs.calls.what_can_be_found_goes_on.Goals as goal
 
 pub returns-clause-write : goal.returns-clause-write
@@ -41,3 +41,18 @@ returns-clause-others c = λ m life restart before now session call can others. 
 
 pub returns-clause-still : goal.returns-clause-still
 returns-clause-still c = λ m life restart before now can others. record { names = can.names; tables = empty_still before now others can.tables; redo = can.redo }
+
+pub returns-clause-sweep : goal.returns-clause-sweep
+returns-clause-sweep c = λ parts least m life restart marks before now w t row place lasts works can at some others. record {
+  names = follow_sweep_names parts m life restart w t row place lasts.is_life.count works at
+      (c.a_sweep_goes_on.ensures.follows parts least m life restart marks before w t row place lasts works at some) can.names;
+  tables = empty_still before now others can.tables;
+  redo = can.redo;
+}
+
+pub returns-clause-swept_nothing : goal.returns-clause-swept_nothing
+returns-clause-swept_nothing c = λ m life restart before now can others. record {
+  names = swept_names m life restart can.names;
+  tables = empty_still before now others can.tables;
+  redo = can.redo;
+}
