@@ -84,7 +84,7 @@ left_below n f chain from count below =
     (All-drop (IsBelow n) count (drop from slots) (All-drop (IsBelow n) from slots below)))
 
 -- what is left of the versions is below what all were
-pub unlinked_below : (n short : ℕ) (store : Store) (t row from count : ℕ) → AreSound short store.tables store.layouts → MayUnlink store t row from count
+unlinked_below : (n short : ℕ) (store : Store) (t row from count : ℕ) → AreSound short store.tables store.layouts → MayUnlink store t row from count
     → AreBelow n store.tables store.layouts → let after = after_unlink store t row from count in AreBelow n after.tables after.layouts
 unlinked_below n short store t row from count sound may below u q used =
     let after = after_unlink store t row from count in
@@ -199,9 +199,9 @@ unnamed_rises restart changes tables layouts n more rose unnamed = record {
   versions = below_rises n more tables layouts rose unnamed.versions;
 }
 
--- A frame more, which names a number that was given: where the versions after its step are below what those before it and the frame's number
--- are below, all numbers are known.
-pub frame_names : (m later : Machine) (life : Life) (restart : Restart) (step : Step) (change : Change) → IsCounted life
+-- With a frame more, whose number was given, none past the later machine's numbers is named, where its step leaves no version past the older
+-- ones and the frame's number.
+frame_names : (m later : Machine) (life : Life) (restart : Restart) (step : Step) (change : Change) → IsCounted life
     → let store = last_store life in
     let after = after_step store step in
     later.base ≡ m.base → m.begun ≤ later.begun → change.xn ≤ m.base + later.begun
