@@ -1,5 +1,5 @@
 -- How many transactions are open, and how many writes wait, are the machine's.
-use Rattle.std.proofs.Common.{◌≡◌, List, [], ◌∷◌, drop, length, map, Option, Some, None, refl, sym, ap, ◌∙◌}
+use Rattle.std.proofs.Common.{◌≡◌, ℕ, ◌+◌, cond, fold, List, [], ◌∷◌, drop, length, map, Option, Some, None, refl, sym, ap, ◌∙◌}
 use Rattle.std.specs.Prelude.{count_by, is_some}
 use Rattle.std.proofs.lemmas.List.{length-drop, length-map}
 use Rattle.px_model.specs.Chains.{unswept}
@@ -9,22 +9,26 @@ use Rattle.px_xacts.specs.declared.transaction.Transaction.{Transaction}
 use Rattle.px_xacts.specs.Transactions.{Transactions}
 use Rattle.px_xacts_laws.specs.Mirrors.{Known, Mirrors, known_of_flat, known_of_open, known_of_transaction, known_of_unswept}
 
-known_transactions : (slots : List (Option Transaction)) → count_by is_some (map known_of_transaction slots) ≡ count_by is_some slots
-known_transactions [] = refl
-known_transactions (None ∷ slots) = known_transactions slots
-known_transactions (Some x ∷ slots) = ap (λ n. n + 1) (known_transactions slots)
+-- one more where it is open
+abbrev plus_open : {X : Type 0} → ℕ → Option X → ℕ
+plus_open count slot = count + cond (is_some slot) 1 0
 
-known_opens : (slots : List (Option Open)) → count_by is_some (map known_of_open slots) ≡ count_by is_some slots
-known_opens [] = refl
-known_opens (None ∷ slots) = known_opens slots
-known_opens (Some x ∷ slots) = ap (λ n. n + 1) (known_opens slots)
+known_transactions : (count : ℕ) (slots : List (Option Transaction)) → fold plus_open count (map known_of_transaction slots) ≡ fold plus_open count slots
+known_transactions count [] = refl
+known_transactions count (None ∷ slots) = known_transactions (count + 0) slots
+known_transactions count (Some x ∷ slots) = known_transactions (count + 1) slots
+
+known_opens : (count : ℕ) (slots : List (Option Open)) → fold plus_open count (map known_of_open slots) ≡ fold plus_open count slots
+known_opens count [] = refl
+known_opens count (None ∷ slots) = known_opens (count + 0) slots
+known_opens count (Some x ∷ slots) = known_opens (count + 1) slots
 
 pub open_mirrors : (m : Machine) (all : Transactions) → Mirrors m all → count_by is_some all.active ≡ opens m
 unfolding opens
 open_mirrors m all mirrors =
-    sym (known_transactions all.active) ∙ ap (λ (slots : List (Option Known)). count_by is_some slots) mirrors.active ∙ known_opens m.active
+    sym (known_transactions 0 all.active) ∙ ap (λ (slots : List (Option Known)). count_by is_some slots) mirrors.active ∙ known_opens 0 m.active
 
 pub unswept_mirrors : (m : Machine) (all : Transactions) → Mirrors m all → length all.queue ≡ unswept m
 unfolding unswept
 unswept_mirrors m all mirrors =
-    sym (length-map known_of_unswept all.queue) ∙ ap length mirrors.queue ∙ length-map known_of_flat (drop m.swept (flat m)) ∙ length-drop m.swept (flat m)
+    sym (length-map all.queue known_of_unswept) ∙ ap length mirrors.queue ∙ length-map (drop m.swept (flat m)) known_of_flat ∙ length-drop m.swept (flat m)

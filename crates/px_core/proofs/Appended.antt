@@ -212,9 +212,8 @@ pub record Fails {W : Type 0} (tells : Type 0) (state : W → State) (counts : W
   pub own : IsFaultOf Write error
   pub none_fell : NoneFell (counts old.site) (counts new.site)
 
-module _ {W : Type 0} (tells : Type 0) (state : W → State) (counts : W → Counts) (session : ℕ) (call : Call) (old new : Kept W)
-    (Holds : (m : Machine) → WorksFor state old m → Type 0) (well : IsWell state old) where
-  fails_still : (error : LogError) → Fails tells state counts old new error → kept_after error old.error ≡ old.error
+module _ {W : Type 0} (tells : Type 0) (state : W → State) (counts : W → Counts) (old new : Kept W) (well : IsWell state old) where
+  pub fails_still : (error : LogError) → Fails tells state counts old new error → kept_after error old.error ≡ old.error
       → (tells → state new.site ≡ state old.site) → Still tells state old new
   fails_still error fails kept same = record {
     form = record { short = ap (λ (h : HeldTables). h.short) fails.held; count = ap (λ (h : HeldTables). length h.tables) fails.held };
@@ -225,7 +224,7 @@ module _ {W : Type 0} (tells : Type 0) (state : W → State) (counts : W → Cou
     error = fails.error_is ∙ kept;
   }
 
-  fails_well : (error : LogError) → Fails tells state counts old new error → IsWell state new
+  pub fails_well : (error : LogError) → Fails tells state counts old new error → IsWell state new
   fails_well error fails = record {
     store = well.store;
     has = record {
@@ -243,21 +242,28 @@ module _ {W : Type 0} (tells : Type 0) (state : W → State) (counts : W → Cou
     stored = same_stored old.active new.active fails.active well.stored;
   }
 
-  write_fault : (fault : Fault) → fault ≡ Write → new.error ≡ Some (SiteFault fault) → LeavesAtFault tells state fault old new
+  pub write_fault : (fault : Fault) → fault ≡ Write → new.error ≡ Some (SiteFault fault) → LeavesAtFault tells state fault old new
   write_fault fault is error = subst (λ (f : Fault). new.error ≡ Some (SiteFault f) → LeavesAtFault tells state f old new) (sym is) (λ e. e) error
 
+  pub passes : (error : LogError) → IsPassing (of_log error)
+  passes logs.OutOfMemory = tt
+  passes (logs.Fault fault) = tt
+  passes (logs.LogFull n) = tt
+
+module _ {W : Type 0} (tells : Type 0) (state : W → State) (counts : W → Counts) (session : ℕ) (call : Call) (old new : Kept W)
+    (Holds : (m : Machine) → WorksFor state old m → Type 0) (well : IsWell state old) where
   refuses : (error : LogError) → Fails tells state counts old new error → OnShortage error (UnlessEnd call (Rose (counts old.site).shorts (counts new.site).shorts))
       → MayMeet call Write → Refuses tells state counts call old new (of_log error)
   refuses logs.OutOfMemory fails short meets = record {
-    leaves = inl (before_still tells state old new (fails_still logs.OutOfMemory fails refl (λ t. fails.untouched t)) fails.active);
+    leaves = inl (before_still tells state old new (fails_still tells state counts old new well logs.OutOfMemory fails refl (λ t. fails.untouched t)) fails.active);
     cause = short;
   }
   refuses (logs.Fault fault) fails short meets = record {
-    leaves = write_fault fault fails.own fails.error_is;
+    leaves = write_fault tells state counts old new well fault fails.own fails.error_is;
     cause = (subst (MayMeet call) (sym fails.own) meets, fails.cause);
   }
   refuses (logs.LogFull n) fails short meets = record {
-    leaves = before_still tells state old new (fails_still (logs.LogFull n) fails refl (λ t. fails.untouched t)) fails.active;
+    leaves = before_still tells state old new (fails_still tells state counts old new well (logs.LogFull n) fails refl (λ t. fails.untouched t)) fails.active;
     cause = full_is old.log n fails.cause;
   }
 
@@ -272,11 +278,6 @@ module _ {W : Type 0} (tells : Type 0) (state : W → State) (counts : W → Cou
       full_number : (a b : ℕ) → LogFull a ≡ LogFull b → a ≡ b
       full_number a b e = cc e
 
-  passes : (error : LogError) → IsPassing (of_log error)
-  passes logs.OutOfMemory = tt
-  passes (logs.Fault fault) = tt
-  passes (logs.LogFull n) = tt
-
   pub fails_does : (error : LogError) → Fails tells state counts old new error
       → OnShortage error (UnlessEnd call (Rose (counts old.site).shorts (counts new.site).shorts)) → MayMeet call Write
       → (tells → (m : Machine) (works : WorksFor state old m) → Holds m works → logged m session call ≢ [])
@@ -288,8 +289,8 @@ module _ {W : Type 0} (tells : Type 0) (state : W → State) (counts : W → Cou
     others = others_on tells state old new fails.touches;
     refused = refuses error fails short meets;
     full = λ t m works holds. finds_full error fails m (adds t m works holds);
-    sound = λ t. passes error;
+    sound = λ t. passes tells state counts old new well error;
     steady = tt;
-    well = fails_well error fails;
+    well = fails_well tells state counts old new well error fails;
     none_fell = fails.none_fell;
   }

@@ -7,6 +7,7 @@ use Rattle.px_active.specs.Active.{IsActiveOf}
 use Rattle.px_active.specs.declared.active.Active.{Active}
 use Rattle.px_answers.specs.Writing.{reply_done}
 use Rattle.px_appending.specs.Versions.{FitsFields, MayBeAppended}
+use Rattle.px_calls.specs.Histories.{by}
 use Rattle.px_calls.specs.declared.call.Call.{Call}
 use Rattle.px_calls.specs.declared.call.Call.TheVariants.{Commit, Delete, Insert, Update}
 use Rattle.px_calls.specs.declared.reply.Reply.{Reply}
@@ -38,6 +39,7 @@ use Rattle.px_logged.specs.Logged.{logged}
 use Rattle.px_model.specs.declared.machine.Open.{Open}
 use Rattle.px_model.specs.declared.write.Write.{Write}
 use Rattle.px_model.specs.declared.write.Write.TheVariants.{Put, Delete as DeleteRow}
+use Rattle.px_engine.specs.Frames.{syncs}
 use Rattle.px_model.specs.Machine.{Machine, commits}
 use Rattle.px_model.specs.Rows.{key_written}
 use Rattle.px_recs.specs.Text.{SlotFits}
@@ -71,7 +73,7 @@ use Rattle.px_core.proofs.Appended.{FollowsBy, IsFramed}
 use Rattle.px_core.proofs.Behind.{does_behind}
 use Rattle.px_core.proofs.Ending.{unmoved}
 use Rattle.px_core.proofs.Leaving.{refused_leaves}
-use Rattle.px_core.proofs.Still.{Still, out_of_memory, read_refused, still_answered, still_well, well_sound}
+use Rattle.px_core.proofs.Still.{Still, out_of_memory, read_refused, same_stored, still_answered, still_well, well_sound}
 
 -- ---- a version
 
