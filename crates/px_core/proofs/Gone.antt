@@ -1,6 +1,6 @@
 -- What goes with a write that is due, and the sweep behind it.
 use Rattle.std.proofs.Common.{◌≡◌, ◌≢◌, ℕ, ◌+◌, ◌≤◌, Option, Some, None, Result, Ok, Err, refl, sym, ap, subst, ◌∙◌, inl, arith}
-use Rattle.std.specs.Prelude.{IfErr, IfSome}
+use Rattle.std.specs.Prelude.{⊤, IfSome}
 use Rattle.px_active.proofs.Sweeping.{due_stored}
 use Rattle.px_active.specs.Active.{IsActiveOf}
 use Rattle.px_active.specs.declared.active.Active.{Active}
@@ -198,7 +198,7 @@ module _ {W : Type 0} (tells : Type 0) (state : W → State) (counts : W → Cou
   not_full (held.Damaged file place) n = λ e. absurd cc
 
   pub sweep_gives_up : (error : HeldError) → FindsGone tells state counts due old mid (Err error)
-      → Sweeps tells state counts old mid (λ m works. Unit {0}) (Err (of_held error))
+      → Sweeps tells state counts old mid (λ m works. ⊤) (Err (of_held error))
   sweep_gives_up error finds =
       let still = finds_still (Err error) finds in
       record {
@@ -215,17 +215,17 @@ module _ {W : Type 0} (tells : Type 0) (state : W → State) (counts : W → Cou
 
   pub sweep_behind : (prepared : PreparedUnlink) (new : Kept W) (result : Result Reply CoreError) → FindsGone tells state counts due old mid (Ok (Some prepared))
       → Sweeps tells state counts mid new (λ m works. MaySweep m (last_store works.life) due prepared) result
-      → Sweeps tells state counts old new (λ m works. Unit {0}) result
+      → Sweeps tells state counts old new (λ m works. ⊤) result
   sweep_behind prepared new result finds sweeps =
       sweeps_behind tells state counts old mid new (finds_still (Ok (Some prepared)) finds) (finds_same (Ok (Some prepared)) finds) finds.stays.none_fell
-      (λ m works. Unit {0}) (λ m works. MaySweep m (last_store works.life) due prepared) result (λ t m works holds. finds.goes m works) sweeps
+      (λ m works. ⊤) (λ m works. MaySweep m (last_store works.life) due prepared) result (λ t m works holds. finds.goes m works) sweeps
 
   pub sweep_past : (new : Kept W) → FindsGone tells state counts due old mid (Ok None) → xacts.due old.active.xacts ≡ Some due
-      → new ≡ record mid { active = new.active } → PassesOne mid new → Sweeps tells state counts old new (λ m works. Unit {0}) (Ok (Swept due.number))
+      → new ≡ record mid { active = new.active } → PassesOne mid new → Sweeps tells state counts old new (λ m works. ⊤) (Ok (Swept due.number))
   sweep_past new finds at is passes =
       let same = finds_same (Ok None) finds in
       let still = finds_still (Ok None) finds in
-      subst (λ (k : Kept W). Sweeps tells state counts old k (λ m works. Unit {0}) (Ok (Swept due.number))) (sym is)
+      subst (λ (k : Kept W). Sweeps tells state counts old k (λ m works. ⊤) (Ok (Swept due.number))) (sym is)
       (passed_sweeps tells state counts old (record mid { active = new.active }) due
       (record { form = still.form; keeps = still.keeps; same = still.same; log = still.log; error = still.error })
       (passes_before old mid new same passes) at well whole finds.stays.none_fell finds.goes)

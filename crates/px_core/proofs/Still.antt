@@ -22,7 +22,6 @@ use Rattle.px_log.specs.Log.{Log}
 use Rattle.px_logged.proofs.Grown.{opening_stays}
 use Rattle.px_logged.specs.Logged.{logged}
 use Rattle.px_model.specs.declared.row.Row.{Row}
-use Rattle.px_told.specs.declared.change.Change.{Change}
 use Rattle.px_model.specs.Machine.{Machine, commits}
 use Rattle.px_model.specs.Rows.{in_order}
 use Rattle.px_shown.specs.Parts.{no_parts}
@@ -70,7 +69,7 @@ well_sound state core well = (served (state core.site) core.held well.store well
 
 -- a call that logs nothing syncs nothing
 nothing_synced : {W : Type 0} (m : Machine) (session : ℕ) (call : Call) (old : Kept W) → logged m session call ≡ [] → durable_after m (by session call) old ≡ durable_of old
-nothing_synced m session Commit old none = ap (λ (changes : List Change). cond (nat_lt 0 (length changes)) (frames_of old + length changes) (durable_of old)) none
+nothing_synced m session Commit old none = ap (λ (n : ℕ). cond (nat_lt 0 n) (frames_of old + n) (durable_of old)) (ap length none)
 nothing_synced m session Begin old none = refl
 nothing_synced m session (Get table key) old none = refl
 nothing_synced m session (Hold table key) old none = refl

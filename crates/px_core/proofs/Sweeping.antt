@@ -1,6 +1,6 @@
 -- A step of the sweeper: the machine after it, the frame that it appends, and where it takes nothing.
 use Rattle.std.proofs.Common.{◌≡◌, ◌≢◌, ℕ, ◌+◌, ◌-◌, ◌≤◌, ◌<◌, ◌&&◌, Bool, cond, true, false, not, List, [], ◌∷◌, length, Option, Some, None, Ok, Err, refl, sym, ap, subst, ◌∙◌, inr, arith}
-use Rattle.std.specs.Prelude.{nat_lt, slice_get}
+use Rattle.std.specs.Prelude.{⊤, nat_lt, slice_get}
 use Rattle.std.proofs.lemmas.Bool.{lt-ltb}
 use Rattle.px_active.specs.Active.{AreStored, IsActiveOf}
 use Rattle.px_active.specs.declared.active.Active.{Active}
@@ -68,6 +68,9 @@ use Rattle.px_core.proofs.Still.{Still, before_still, still_has, still_well}
 
 -- ---- how many frames a sweep has
 
+abbrev one_if : Bool → ℕ
+one_if more = cond more 1 0
+
 abbrev over : (committed put : Bool) → List Variation → Bool
 over committed put [] = not (committed && put)
 over committed put (version ∷ base) = true
@@ -93,31 +96,31 @@ none_over true false place versions (version ∷ base) many none = absurd (omega
 none_over false put place versions (version ∷ base) many none = absurd (omega (arith, none))
 
 frames_at : (m : Machine) (store : Store) (w : Flat) (t row place : ℕ) → IsSweptAt m store w t row place
-    → sweep_frames m ≡ cond (over w.committed (is_put w.write) (base_of m (key_written w.write))) 1 0
+    → sweep_frames m ≡ one_if (over w.committed (is_put w.write) (base_of m (key_written w.write)))
 unfolding sweep_frames
 frames_at m store w t row place at =
     let base = base_of m (key_written w.write) in
     ap (frames_of_due m) at.next
-    ∙ ap (λ (b : Bool). cond (b && unlinks_over w base) 1 0) (lt-ltb w.place (horizon m) at.due)
-    ∙ ap (λ (b : Bool). cond b 1 0) (over_is w base)
+    ∙ ap (λ (b : Bool). one_if (b && unlinks_over w base)) (lt-ltb w.place (horizon m) at.due)
+    ∙ ap one_if (over_is w base)
 
 pub some_frame : (m : Machine) (store : Store) (w : Flat) (t row place : ℕ) → IsSweptAt m store w t row place → 1 ≤ sweep_count_of store w t row place → sweep_frames m ≡ 1
 some_frame m store w t row place at some =
     frames_at m store w t row place at
-    ∙ ap (λ (b : Bool). cond b 1 0)
+    ∙ ap one_if
     (some_over w.committed (is_put w.write) place (length (versions_of store t row)) (base_of m (key_written w.write)) at.behind some)
 
 pub no_frame : (m : Machine) (store : Store) (w : Flat) (t row place : ℕ) → IsSweptAt m store w t row place → sweep_count_of store w t row place ≡ 0 → sweep_frames m ≡ 0
 no_frame m store w t row place at none =
     frames_at m store w t row place at
-    ∙ ap (λ (b : Bool). cond b 1 0)
+    ∙ ap one_if
     (none_over w.committed (is_put w.write) place (length (versions_of store t row)) (base_of m (key_written w.write)) at.behind none)
 
 pub idle_frames : (m : Machine) → sweep_reply m ≡ Idle → sweep_frames m ≡ 0
 unfolding sweep_reply sweep_frames
 idle_frames m idle = by_next (slice_get (flat m) m.swept) idle
   where
-    by_due : (due : Bool) (number : ℕ) (more : Bool) → cond due (Swept number) Idle ≡ Idle → cond (due && more) 1 0 ≡ 0
+    by_due : (due : Bool) (number : ℕ) (more : Bool) → cond due (Swept number) Idle ≡ Idle → one_if (due && more) ≡ 0
     by_due true number more e = absurd cc
     by_due false number more e = refl
 
@@ -156,7 +159,7 @@ due_replied state core m due works is = sym (ap due_reply is) ∙ due_mirrors m 
 
 module _ {W : Type 0} (tells : Type 0) (state : W → State) (counts : W → Counts) (core : Kept W) (well : IsWell state core) (whole : core.error ≡ None) where
   pub idle_sweeps : ((m : Machine) → IsActiveOf m core.active → Idle ≡ sweep_reply m) → NoneFell (counts core.site) (counts core.site)
-      → Sweeps tells state counts core core (λ m works. Unit {0}) (Ok Idle)
+      → Sweeps tells state counts core core (λ m works. ⊤) (Ok Idle)
   idle_sweeps idle fell = record {
     answered = λ t m works holds.
         let is = idle m works.active in
@@ -212,7 +215,7 @@ module _ {W : Type 0} (tells : Type 0) (state : W → State) (counts : W → Cou
 
   pub passed_sweeps : IsWell state old → old.error ≡ None → NoneFell (counts old.site) (counts new.site)
       → ((m : Machine) (works : WorksFor state old m) → TakesNothing m (last_store works.life) due)
-      → Sweeps tells state counts old new (λ m works. Unit {0}) (Ok (Swept due.number))
+      → Sweeps tells state counts old new (λ m works. ⊤) (Ok (Swept due.number))
   passed_sweeps well whole fell takes = record {
     answered = λ t m works holds.
         let nothing = takes m works in
