@@ -255,7 +255,7 @@ module _ {W : Type 0} (state : W → State) (core : Kept W) (due : Due) (prepare
       let w = may.w in
       let at = may.is.swept in
       let follows = sweep_follows sweep_may sweep_holds two_at_most kept_sweep committed_shown change_held (front_held (steps_held one_layout)) no_parts (acked m) m
-          works.life works.restart works.marks now w due.table due.row may.place works.has.lasts works.works at may.some in
+      works.life works.restart works.marks now w due.table due.row may.place works.has.lasts works.works at may.some in
       record {
         follows = follows;
         goes = sweep_works sweep_may sweep_holds two_at_most kept_sweep committed_shown change_held (front_held (steps_held one_layout)) no_parts (acked m) m
@@ -314,7 +314,7 @@ module _ {W : Type 0} (tells : Type 0) (state : W → State) (counts : W → Cou
       let is = prepared_sweep state old due prepared m works may in
       let has : HasLife no_parts (acked m) next later works.restart works.marks (opening_of state new) =
       appends.goes (last_store works.life) may.from (goes_from state old due prepared m works may) t no_parts (acked m) m next works.life works.restart works.marks
-          (record { has = works.has; follows = is.follows }) in
+      (record { has = works.has; follows = is.follows }) in
       record {
         whole = whole;
         life = later;
