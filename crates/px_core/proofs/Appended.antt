@@ -1,11 +1,12 @@
 -- A frame more on the log of a core, and one that couldn't be appended.
-use Rattle.std.proofs.Common.{◌≡◌, ◌≢◌, ℕ, ◌+◌, ◌≤◌, ◌<◌, Bool, cond, true, List, [], ◌∷◌, length, Option, Some, None, Ok, Err, refl, sym, ap, subst, ◌∙◌, inl, inr, arith}
+use Rattle.std.proofs.Common.{◌≡◌, ◌≢◌, ℕ, ◌+◌, ◌≤◌, ◌<◌, Bool, cond, true, false, List, [], ◌∷◌, length, Option, Some, None, Ok, Err, refl, sym, ap, subst, ◌∙◌, inl, inr, arith}
 use Rattle.std.specs.Prelude.{IsErrOf, nat_lt, unwrap_or}
 use Rattle.std.proofs.lemmas.Bool.{cases_Bool, ltb-false, ltb-true}
-use Rattle.px_active.specs.Active.{IsActiveOf}
+use Rattle.px_active.specs.Active.{AreStored, IsActiveOf}
 use Rattle.px_appending.specs.Appending.{GoesOn, LastsOn, MayGoOn}
 use Rattle.px_log.proofs.Touching.{last_moment}
 use Rattle.px_log.specs.Touching.{TouchesLog}
+use Rattle.px_calls.specs.Histories.{by}
 use Rattle.px_calls.specs.declared.call.Call.{Call}
 use Rattle.px_calls.specs.declared.reply.Reply.{Reply}
 use Rattle.px_calls.specs.Steps.{reply_of, state_after}
@@ -13,6 +14,7 @@ use Rattle.px_cell_laws.specs.Locating.{AreWrittenAt}
 use Rattle.px_cell_standing.proofs.Going.{empty_still, follow_names}
 use Rattle.px_cell_standing.specs.Found.{CanBeFound}
 use Rattle.px_cell_standing.specs.Naming.{IsOneVersion}
+use Rattle.px_engine.specs.Frames.{syncs}
 use Rattle.px_held.proofs.Serving.{anywhere}
 use Rattle.px_held.specs.Serving.{HeldTables, Serves}
 use Rattle.px_history.specs.Steps.{Step, after_step}
@@ -40,14 +42,14 @@ use Rattle.px_tidying.specs.Opening.{HasLife, HasStore}
 use Rattle.px_working.proofs.Grown.{last_more}
 use Rattle.px_working.specs.Follows.{Follows, last_store, with_step}
 use Rattle.px_working.specs.Works.{Works}
-use Rattle.px_core.specs.Core.{IsWell, MayMeet, UnlessEnd, opening_of}
+use Rattle.px_core.specs.Core.{IsWell, MayMeet, UnlessEnd, durable_of, frames_of, opening_of}
 use Rattle.px_core.specs.Errors.{IsPassing, kept_after, of_log}
 use Rattle.px_core.specs.Serving.{Does}
 use Rattle.px_core.specs.Working.{FindsFull, LeavesAtFault, Refuses, StandsWithin, WorksFor}
 use Rattle.px_core.specs.declared.error.CoreError.TheVariants.{LogFull}
 use Rattle.px_core.specs.declared.state.Kept.{Kept}
 use Rattle.px_core.proofs.Crashing.{each_stands}
-use Rattle.px_core.proofs.Still.{Still, before_still}
+use Rattle.px_core.proofs.Still.{Still, before_still, same_stored}
 
 -- ---- the log's room
 
@@ -141,6 +143,7 @@ pub record Appends {W : Type 0} (tells : Type 0) (state : W → State) (counts :
   pub moments : LastsOn tells step (opening_of state old) (opening_of state new)
   pub touches : tells → TouchesLog 1 (state old.site) (state new.site)
   pub frames : new.log.frames ≡ old.log.frames + 1
+  pub durable : new.log.durable ≡ old.log.durable
   pub room : old.log.frames < most_frames
   pub none_fell : NoneFell (counts old.site) (counts new.site)
 
@@ -159,11 +162,12 @@ pub record IsFramed {W : Type 0} (state : W → State) (session : ℕ) (call : C
 -- one frame, which no sync follows
 pub framed_does : {W : Type 0} (tells : Type 0) (state : W → State) (counts : W → Counts) (session : ℕ) (call : Call) (old new : Kept W)
     (Holds : (m : Machine) → WorksFor state old m → Type 0) (step : Step) (reply : Reply) → Appends tells state counts step old new → IsWell state old
-    → new.error ≡ None → new.active.commits ≤ old.active.commits + 1
+    → new.error ≡ None → new.active.commits ≤ old.active.commits + 1 → (AreStored old.active.xacts → AreStored new.active.xacts)
+    → ((m : Machine) → syncs m (by session call) ≡ false)
     → (tells → (m : Machine) (works : WorksFor state old m) → Holds m works
     → IsFramed state session call old new step m works reply × (commits (state_after m session call) ≡ commits m))
     → Does tells state counts session call old new Holds (Ok reply)
-framed_does {W} tells state counts session call old new Holds step reply appends well whole count framed = record {
+framed_does {W} tells state counts session call old new Holds step reply appends well whole count keeps quiet framed = record {
   answered = λ t m works holds.
       let is = (framed t m works holds).0 in
       let same = (framed t m works holds).1 in
@@ -177,6 +181,7 @@ framed_does {W} tells state counts session call old new Holds step reply appends
             (found_with tells state session call old new step t m works is.follows is.one_version is.writer
             (last_others state old new (others_on tells state old new appends.touches t m works)));
         frames = omega (arith, appends.frames, is.one);
+        durable = appends.durable ∙ sym (ap (λ (b : Bool). cond b (frames_of old + length (logged m session call)) (durable_of old)) (quiet m));
         room = λ full. absurd (omega (arith, full, appends.room));
       };
   moments = λ t m works holds. stands_on tells state session call old new step t m works (framed t m works holds).0.follows appends.moments;
@@ -189,6 +194,7 @@ framed_does {W} tells state counts session call old new Holds step reply appends
     store = after_step well.store step;
     has = appends.store well.store well.has;
     few = omega (arith, well.few, count, appends.frames);
+    stored = keeps well.stored;
   };
   none_fell = appends.none_fell;
 }
@@ -206,9 +212,8 @@ pub record Fails {W : Type 0} (tells : Type 0) (state : W → State) (counts : W
   pub own : IsFaultOf Write error
   pub none_fell : NoneFell (counts old.site) (counts new.site)
 
-module _ {W : Type 0} (tells : Type 0) (state : W → State) (counts : W → Counts) (session : ℕ) (call : Call) (old new : Kept W)
-    (Holds : (m : Machine) → WorksFor state old m → Type 0) (well : IsWell state old) where
-  fails_still : (error : LogError) → Fails tells state counts old new error → kept_after error old.error ≡ old.error
+module _ {W : Type 0} (tells : Type 0) (state : W → State) (counts : W → Counts) (old new : Kept W) (well : IsWell state old) where
+  pub fails_still : (error : LogError) → Fails tells state counts old new error → kept_after error old.error ≡ old.error
       → (tells → state new.site ≡ state old.site) → Still tells state old new
   fails_still error fails kept same = record {
     form = record { short = ap (λ (h : HeldTables). h.short) fails.held; count = ap (λ (h : HeldTables). length h.tables) fails.held };
@@ -219,7 +224,7 @@ module _ {W : Type 0} (tells : Type 0) (state : W → State) (counts : W → Cou
     error = fails.error_is ∙ kept;
   }
 
-  fails_well : (error : LogError) → Fails tells state counts old new error → IsWell state new
+  pub fails_well : (error : LogError) → Fails tells state counts old new error → IsWell state new
   fails_well error fails = record {
     store = well.store;
     has = record {
@@ -234,23 +239,31 @@ module _ {W : Type 0} (tells : Type 0) (state : W → State) (counts : W → Cou
       short = rw (fails.held, fails.log) well.has.short;
     };
     few = rw (fails.active, fails.log) well.few;
+    stored = same_stored old.active new.active fails.active well.stored;
   }
 
-  write_fault : (fault : Fault) → fault ≡ Write → new.error ≡ Some (SiteFault fault) → LeavesAtFault tells state fault old new
+  pub write_fault : (fault : Fault) → fault ≡ Write → new.error ≡ Some (SiteFault fault) → LeavesAtFault tells state fault old new
   write_fault fault is error = subst (λ (f : Fault). new.error ≡ Some (SiteFault f) → LeavesAtFault tells state f old new) (sym is) (λ e. e) error
 
+  pub passes : (error : LogError) → IsPassing (of_log error)
+  passes logs.OutOfMemory = tt
+  passes (logs.Fault fault) = tt
+  passes (logs.LogFull n) = tt
+
+module _ {W : Type 0} (tells : Type 0) (state : W → State) (counts : W → Counts) (session : ℕ) (call : Call) (old new : Kept W)
+    (Holds : (m : Machine) → WorksFor state old m → Type 0) (well : IsWell state old) where
   refuses : (error : LogError) → Fails tells state counts old new error → OnShortage error (UnlessEnd call (Rose (counts old.site).shorts (counts new.site).shorts))
       → MayMeet call Write → Refuses tells state counts call old new (of_log error)
   refuses logs.OutOfMemory fails short meets = record {
-    leaves = inl (before_still tells state old new (fails_still logs.OutOfMemory fails refl (λ t. fails.untouched t)) fails.active);
+    leaves = inl (before_still tells state old new (fails_still tells state counts old new well logs.OutOfMemory fails refl (λ t. fails.untouched t)) fails.active);
     cause = short;
   }
   refuses (logs.Fault fault) fails short meets = record {
-    leaves = write_fault fault fails.own fails.error_is;
+    leaves = write_fault tells state counts old new well fault fails.own fails.error_is;
     cause = (subst (MayMeet call) (sym fails.own) meets, fails.cause);
   }
   refuses (logs.LogFull n) fails short meets = record {
-    leaves = before_still tells state old new (fails_still (logs.LogFull n) fails refl (λ t. fails.untouched t)) fails.active;
+    leaves = before_still tells state old new (fails_still tells state counts old new well (logs.LogFull n) fails refl (λ t. fails.untouched t)) fails.active;
     cause = full_is old.log n fails.cause;
   }
 
@@ -265,11 +278,6 @@ module _ {W : Type 0} (tells : Type 0) (state : W → State) (counts : W → Cou
       full_number : (a b : ℕ) → LogFull a ≡ LogFull b → a ≡ b
       full_number a b e = cc e
 
-  passes : (error : LogError) → IsPassing (of_log error)
-  passes logs.OutOfMemory = tt
-  passes (logs.Fault fault) = tt
-  passes (logs.LogFull n) = tt
-
   pub fails_does : (error : LogError) → Fails tells state counts old new error
       → OnShortage error (UnlessEnd call (Rose (counts old.site).shorts (counts new.site).shorts)) → MayMeet call Write
       → (tells → (m : Machine) (works : WorksFor state old m) → Holds m works → logged m session call ≢ [])
@@ -281,8 +289,8 @@ module _ {W : Type 0} (tells : Type 0) (state : W → State) (counts : W → Cou
     others = others_on tells state old new fails.touches;
     refused = refuses error fails short meets;
     full = λ t m works holds. finds_full error fails m (adds t m works holds);
-    sound = λ t. passes error;
+    sound = λ t. passes tells state counts old new well error;
     steady = tt;
-    well = fails_well error fails;
+    well = fails_well tells state counts old new well error fails;
     none_fell = fails.none_fell;
   }

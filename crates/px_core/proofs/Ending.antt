@@ -1,10 +1,11 @@
 -- Commit and rollback.
 use Rattle.std.proofs.Common.{◌≡◌, ◌≢◌, ℕ, ◌+◌, ◌≤◌, ◌<◌, ◌^◌, Bool, true, false, List, [], ◌∷◌, ◌++◌, length, zero, suc, Option, Some, None, Ok, Err, refl, sym, ap, subst, ◌∙◌, inr, arith, append-nil}
-use Rattle.std.specs.Prelude.{◌&&◌, cond, is_some, slice_index_or, slice_set}
-use Rattle.px_active.specs.Active.{IsActiveOf, IsWriterIn, commits_after, end_call, writer_in}
+use Rattle.std.specs.Prelude.{◌&&◌, cond, is_some, nat_lt, slice_index_or, slice_set}
+use Rattle.px_active.specs.Active.{AreStored, IsActiveOf, IsWriterIn, commits_after, end_call, writer_in}
 use Rattle.px_active.specs.declared.active.Active.{Active}
 use Rattle.px_appending.specs.Appending.{IsFlushed, LastsThere}
 use Rattle.px_log.specs.Touching.{TouchesLog}
+use Rattle.px_calls.specs.Histories.{by}
 use Rattle.px_calls.specs.declared.call.Call.TheVariants.{Commit, Rollback}
 use Rattle.px_calls.specs.declared.reply.Reply.{Reply}
 use Rattle.px_calls.specs.Steps.{open_of, reply_of, state_after}
@@ -45,16 +46,16 @@ use Rattle.px_xacts.specs.Transactions as xacts
 use Rattle.px_xacts.specs.Transactions.{Transactions}
 use Rattle.px_xacts_laws.proofs.Mirroring.{session_known}
 use Rattle.px_xacts_laws.specs.Mirrors.{Mirrors, known_of_open, known_of_transaction}
-use Rattle.px_core.specs.Core.{IsWell, opening_of}
+use Rattle.px_core.specs.Core.{IsWell, durable_of, frames_of, opening_of}
 use Rattle.px_core.specs.Errors.{IsPassing, of_site}
 use Rattle.px_core.specs.Serving.{Does}
-use Rattle.px_core.specs.Working.{LeavesAtFault, Refuses, StandsWithin, WorksFor}
+use Rattle.px_core.specs.Working.{LeavesAtFault, Refuses, StandsWithin, WorksFor, durable_after}
 use Rattle.px_core.specs.declared.error.CoreError.TheVariants.{LogFull}
 use Rattle.px_core.specs.declared.state.Kept.{Kept}
 use Rattle.px_core.proofs.Appended.{Appends, FollowsBy, IsFramed, life_on, stands_on, works_with, found_with, last_others}
 use Rattle.px_core.proofs.Crashing.{each_stands, others_then, stands_then}
 use Rattle.px_core.proofs.Leaving.{LeavesCells}
-use Rattle.px_core.proofs.Still.{Still, still_answered}
+use Rattle.px_core.proofs.Still.{Still, same_stored, still_answered}
 
 -- ---- an end without writes
 
@@ -109,11 +110,11 @@ module _ {W : Type 0} (tells : Type 0) (state : W → State) (counts : W → Cou
       (ended_written m old.active.xacts (last_store works.life) session committed works.active.mirrors works.works.kept works.written_at)
 
   pub empty_end_does : Still tells state old new → IsWell state old → old.error ≡ None → new.active.commits ≡ old.active.commits
-      → NoneFell (counts old.site) (counts new.site)
+      → (AreStored old.active.xacts → AreStored new.active.xacts) → NoneFell (counts old.site) (counts new.site)
       → ((m : Machine) → WorksFor state old m → LeavesCells m session (end_call committed))
       → Does tells state counts session (end_call committed) old new Holds (Ok reply)
-  empty_end_does still well whole count fell leaves =
-      still_answered tells state counts session (end_call committed) old new Holds still well whole count fell reply
+  empty_end_does still well whole count keeps fell leaves =
+      still_answered tells state counts session (end_call committed) old new Holds still well whole count keeps fell reply
       (λ t m works holds. record {
         reply_is = ends.reply_is m works.active;
         leaves = leaves m works;
@@ -210,6 +211,10 @@ commit_framed {W} tells state counts session xn number old new reply Holds ends 
 
 -- ---- the sync of a commit
 
+-- all frames are synced with a commit that has one
+all_synced : {W : Type 0} (m : Machine) (session : ℕ) (old : Kept W) → length (logged m session Commit) ≡ 1 → durable_after m (by session Commit) old ≡ frames_of old + 1
+all_synced m session old one = ap (λ (n : ℕ). cond (nat_lt 0 n) (frames_of old + n) (durable_of old)) one
+
 -- the frames of the core are made durable, or not; the tables and the log stay as they were but for that
 pub record Flushes {W : Type 0} (tells : Type 0) (state : W → State) (counts : W → Counts) (mid new : Kept W) : Type 0 where
   pub store : (store : Store) → HasStore store (opening_of state mid) → HasStore store (opening_of state new)
@@ -240,19 +245,21 @@ module _ {W : Type 0} (tells : Type 0) (state : W → State) (counts : W → Cou
       others_then (state old.site) (state mid.site) (state new.site)
       (weaker_moments (λ now on. on.others) (appends.touches t).alone) (weaker_moments (λ now on. on.others) (flushes.touches t).alone)
 
-  both_well : new.active.commits ≤ old.active.commits + 1 → IsWell state new
-  both_well count = record {
+  both_well : new.active.commits ≤ old.active.commits + 1 → (AreStored old.active.xacts → AreStored new.active.xacts) → IsWell state new
+  both_well count keeps = record {
     store = after_step well.store (Step.commit xn number);
     has = flushes.store (after_step well.store (Step.commit xn number)) (appends.store well.store well.has);
     few = omega (arith, well.few, count, flushes.frames, appends.frames);
+    stored = keeps well.stored;
   }
 
   -- the sync was done
   pub commit_does : (reply : Reply) → new.error ≡ None → new.active.commits ≤ old.active.commits + 1
+      → (AreStored old.active.xacts → AreStored new.active.xacts) → durable_of new ≡ frames_of mid
       → IsFlushed tells (opening_of state mid) (opening_of state new)
       → ((m : Machine) (works : WorksFor state old m) → IsFramed state session Commit old new (Step.commit xn number) m works reply)
       → Does tells state counts session Commit old new Holds (Ok reply)
-  commit_does reply whole count flushed framed = record {
+  commit_does reply whole count keeps marks flushed framed = record {
     answered = λ t m works holds.
         let step = Step.commit xn number in
         let is = framed m works in
@@ -264,6 +271,7 @@ module _ {W : Type 0} (tells : Type 0) (state : W → State) (counts : W → Cou
               (flushed t no_parts (acked m) (after m) later works.restart works.marks has) is.goes is.active is.written
               (found_with tells state session Commit old new step t m works (follows m works) is.one_version is.writer (last_others state old new (both_others t m works)));
           frames = omega (arith, flushes.frames, appends.frames, is.one);
+          durable = marks ∙ appends.frames ∙ sym (all_synced m session old is.one);
           room = λ full. absurd (omega (arith, full, appends.room));
         };
     moments = λ t m works holds. both_stand t m works;
@@ -272,7 +280,7 @@ module _ {W : Type 0} (tells : Type 0) (state : W → State) (counts : W → Cou
     full = λ t m works holds. tt;
     sound = λ t. tt;
     steady = whole;
-    well = both_well count;
+    well = both_well count keeps;
     none_fell = then_none_fell appends.none_fell flushes.none_fell;
   }
 
@@ -311,6 +319,6 @@ module _ {W : Type 0} (tells : Type 0) (state : W → State) (counts : W → Cou
     full = λ t m works holds n is. absurd (not_full error n is);
     sound = λ t. passes error;
     steady = tt;
-    well = both_well (let count = ap (λ (a : Active). a.commits) same in omega (arith, count));
+    well = both_well (let count = ap (λ (a : Active). a.commits) same in omega (arith, count)) (same_stored old.active new.active same);
     none_fell = then_none_fell appends.none_fell flushes.none_fell;
   }

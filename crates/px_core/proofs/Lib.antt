@@ -5,9 +5,11 @@ pub mod Closing
 pub mod Crashing
 pub mod Ending
 pub mod Finding
+pub mod Gone
 pub mod Leaving
 pub mod Reading
 pub mod Still
+pub mod Sweeping
 pub mod Telling
 pub mod Walking
 pub mod Writing

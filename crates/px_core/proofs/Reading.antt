@@ -4,7 +4,7 @@ use Rattle.std.specs.Prelude.{IfErr, IfOk, OnErr, OnOk}
 use Rattle.px_calls.specs.declared.call.Call.{Call}
 use Rattle.px_calls.specs.declared.call.Call.TheVariants.{Begin, Get, Hold, Fetch, Find, Scan, Insert, Update, Delete, Commit, Rollback}
 use Rattle.px_active.proofs.Calls.{hold_leaves}
-use Rattle.px_active.specs.Active.{IsActiveOf, only_reads}
+use Rattle.px_active.specs.Active.{AreStored, IsActiveOf, only_reads}
 use Rattle.px_active.specs.declared.active.Active.{Active}
 use Rattle.px_answers.specs.Asking.{IsCallerOf, IsCallerOn}
 use Rattle.px_answers.specs.declared.caller.Caller.{Caller}
@@ -37,7 +37,7 @@ use Rattle.px_core.specs.Serving.{Does, MeetsOwn, Reads}
 use Rattle.px_core.specs.Working.{WorksFor}
 use Rattle.px_core.specs.declared.state.Kept.{Kept}
 use Rattle.px_core.proofs.Leaving.{read_leaves}
-use Rattle.px_core.proofs.Still.{Still, read_refused, sees, still_answered, well_sound}
+use Rattle.px_core.proofs.Still.{Still, read_refused, same_stored, sees, still_answered, well_sound}
 
 pub no_end : (call : Call) → adds_nothing call ≡ true → (P : Type 0) → UnlessEnd call P
 no_end Commit silent P = absurd cc
@@ -65,7 +65,7 @@ module _ {W : Type 0} (tells : Type 0) (state : W → State) (counts : W → Cou
 
   pub reads_answered : (reply : Reply) → Reads tells state counts session call old new (Ok reply) → Does tells state counts session call old new Holds (Ok reply)
   reads_answered reply reads =
-      still_answered tells state counts session call old new Holds (reads_still (Ok reply) reads) well whole reads.commits reads.reads.stays.none_fell reply
+      still_answered tells state counts session call old new Holds (reads_still (Ok reply) reads) well whole reads.commits reads.stored reads.reads.stays.none_fell reply
       (λ t m works holds. record {
         reply_is = reads.reply t m works;
         leaves = read_leaves m session call silent;
@@ -75,7 +75,7 @@ module _ {W : Type 0} (tells : Type 0) (state : W → State) (counts : W → Cou
 
   pub reads_refused : (error : HeldError) → Reads tells state counts session call old new (Err error) → Does tells state counts session call old new Holds (Err (of_held error))
   reads_refused error reads =
-      read_refused tells state counts session call old new Holds (reads_still (Err error) reads) well whole reads.commits reads.reads.stays.none_fell reads.err
+      read_refused tells state counts session call old new Holds (reads_still (Err error) reads) well whole reads.commits reads.stored reads.reads.stays.none_fell reads.err
       (no_end call silent) error reads.reads.cause.fault reads.meets
       (λ t. reads.reads.cause.sound t old.held.short well.store well.has.serves (well_sound state old well))
 
@@ -125,6 +125,7 @@ module _ {W : Type 0} (tells : Type 0) (state : W → State) (counts : W → Cou
         reads = reads;
         meets = meets_read (counts old.site) (counts new.site) call meets result reads.cause.fault;
         commits = ap (λ (a : Active). a.commits) same;
+        stored = same_stored old.active new.active same;
         err = on_err result same;
         written = λ store at. on_ok result (subst (λ (a : Active). AreWrittenAt a.xacts store) (sym same) at);
         reply = λ t m works. subst (λ (s : ℕ). IfOk result (λ reply. reply ≡ reply_of m s call)) is_session
@@ -145,12 +146,13 @@ module _ {W : Type 0} (tells : Type 0) (state : W → State) (counts : W → Cou
   pub begin_reads : (active : Active) (frames : ℕ) (reply : Reply) → ((m : Machine) → IsActiveOf m old.active → reply ≡ reply_of m session Begin)
       → ((m : Machine) → IsKept m → IsActiveOf m old.active → IsActiveOf (state_after m session Begin) active)
       → active.xacts ≡ xacts.after_begin old.active.xacts session frames → active.commits ≡ old.active.commits
-      → Reads tells state counts session Begin old (record old { active = active }) (Ok reply)
-  begin_reads active frames reply reply_is is begun count = record {
+      → (AreStored old.active.xacts → AreStored active.xacts) → Reads tells state counts session Begin old (record old { active = active }) (Ok reply)
+  begin_reads active frames reply reply_is is begun count stored = record {
     rest = refl;
     reads = reads_none tells state counts old.site old.held reply;
     meets = tt;
     commits = count;
+    stored = stored;
     err = tt;
     written = λ store at. subst (λ (all : Transactions). AreWrittenAt all store) (sym begun) (begin_written old.active.xacts store session frames at);
     reply = λ t m works. reply_is m works.active;
@@ -164,6 +166,7 @@ module _ {W : Type 0} (tells : Type 0) (state : W → State) (counts : W → Cou
     reads = reads_none tells state counts old.site old.held reply;
     meets = tt;
     commits = refl;
+    stored = λ stored. stored;
     err = tt;
     written = λ store at. at;
     reply = λ t m works. reply_is m works;
@@ -207,6 +210,7 @@ module _ {W : Type 0} (tells : Type 0) (state : W → State) (counts : W → Cou
     reads = reads;
     meets = meets_read (counts old.site) (counts new.site) (Hold table key) (λ fault is. is) result reads.cause.fault;
     commits = ap (λ (a : Active). a.commits) tickets;
+    stored = λ stored. subst (λ (a : Active). AreStored a.xacts) (sym tickets) stored;
     err = left_if_err result tickets err;
     written = λ store at. on_ok result (subst (λ (all : Transactions). AreWrittenAt all store) (sym (ap (λ (a : Active). a.xacts) tickets)) at);
     reply = λ t m works. subst (λ (s : ℕ). IfOk result (λ reply. reply ≡ reply_of m s (Hold table key))) is_session (reply t m works);

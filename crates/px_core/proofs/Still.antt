@@ -1,9 +1,12 @@
 -- A call after which site, tables and log are as before: what it leaves of a core that works for a machine.
-use Rattle.std.proofs.Common.{◌≡◌, ◌≢◌, ℕ, true, List, [], ◌∷◌, length, None, Ok, Err, sym, ap, subst, ◌∙◌, inl, arith}
-use Rattle.px_active.specs.Active.{IsActiveOf}
+use Rattle.std.proofs.Common.{◌≡◌, ◌≢◌, ℕ, ◌+◌, Bool, cond, true, List, [], ◌∷◌, length, None, Ok, Err, refl, sym, ap, subst, ◌∙◌, inl, arith}
+use Rattle.std.specs.Prelude.{nat_lt}
+use Rattle.px_active.specs.Active.{AreStored, IsActiveOf}
 use Rattle.px_active.specs.declared.active.Active.{Active}
 use Rattle.px_answers.specs.Seeing.{Sees}
 use Rattle.px_calls.specs.declared.call.Call.{Call}
+use Rattle.px_calls.specs.declared.call.Call.TheVariants.{Begin, Get, Hold, Fetch, Find, Scan, Insert, Update, Delete, Commit, Rollback}
+use Rattle.px_calls.specs.Histories.{by}
 use Rattle.px_calls.specs.declared.reply.Reply.{Reply}
 use Rattle.px_calls.specs.Steps.{reply_of, state_after}
 use Rattle.px_cell_laws.specs.Locating.{AreWrittenAt}
@@ -17,6 +20,7 @@ use Rattle.px_held.specs.Serving.{HasSameForm, Serves}
 use Rattle.px_history.specs.Store.{Store}
 use Rattle.px_log.specs.Log.{Log}
 use Rattle.px_logged.proofs.Grown.{opening_stays}
+use Rattle.px_logged.specs.Logged.{logged}
 use Rattle.px_model.specs.declared.row.Row.{Row}
 use Rattle.px_model.specs.Machine.{Machine, commits}
 use Rattle.px_model.specs.Rows.{in_order}
@@ -33,14 +37,17 @@ use Rattle.px_tidying.proofs.Readying.{held_reads}
 use Rattle.px_tidying.specs.Opening.{HasLife, opening}
 use Rattle.px_working.specs.Follows.{last_store}
 use Rattle.px_working.specs.Lasts.{Lasts}
-use Rattle.px_core.specs.Core.{IsWell, UnlessEnd, opening_of}
+use Rattle.px_core.specs.Core.{IsWell, UnlessEnd, durable_of, frames_of, opening_of}
 use Rattle.px_core.specs.Errors.{IsPassing, of_held}
 use Rattle.px_core.specs.Serving.{Does, MeetsOwn}
-use Rattle.px_core.specs.Working.{AsBefore, LeavesAtFault, Refuses, WorksFor}
+use Rattle.px_core.specs.Working.{AsBefore, LeavesAtFault, Refuses, WorksFor, durable_after}
 use Rattle.px_core.specs.declared.error.CoreError.{CoreError}
 use Rattle.px_core.specs.declared.error.CoreError.TheVariants.{OutOfMemory, Fault as FaultOf, LogFull, Damaged}
 use Rattle.px_core.specs.declared.state.Kept.{Kept}
 use Rattle.px_core.proofs.Leaving.{LeavesCells}
+
+pub same_stored : (old new : Active) → new ≡ old → AreStored old.xacts → AreStored new.xacts
+same_stored old new same stored = subst (λ (a : Active). AreStored a.xacts) (sym same) stored
 
 -- tables, transactions and held keys are the machine's
 pub sees : {W : Type 0} (state : W → State) (core : Kept W) (m : Machine) (works : WorksFor state core m)
@@ -60,6 +67,20 @@ sees state core m works = record {
 pub well_sound : {W : Type 0} (state : W → State) (core : Kept W) (well : IsWell state core) → AreSound core.held.short well.store.tables well.store.layouts
 well_sound state core well = (served (state core.site) core.held well.store well.has.serves).sound
 
+-- a call that logs nothing syncs nothing
+nothing_synced : {W : Type 0} (m : Machine) (session : ℕ) (call : Call) (old : Kept W) → logged m session call ≡ [] → durable_after m (by session call) old ≡ durable_of old
+nothing_synced m session Commit old none = ap (λ (n : ℕ). cond (nat_lt 0 n) (frames_of old + n) (durable_of old)) (ap length none)
+nothing_synced m session Begin old none = refl
+nothing_synced m session (Get table key) old none = refl
+nothing_synced m session (Hold table key) old none = refl
+nothing_synced m session (Fetch ticket) old none = refl
+nothing_synced m session (Find table tag) old none = refl
+nothing_synced m session (Scan table) old none = refl
+nothing_synced m session (Insert table key tag body) old none = refl
+nothing_synced m session (Update table key tag body) old none = refl
+nothing_synced m session (Delete table key) old none = refl
+nothing_synced m session Rollback old none = refl
+
 -- the tables serve what they served, and log and error are the same; where the site tells, nothing happened
 pub record Still {W : Type 0} (tells : Type 0) (state : W → State) (old new : Kept W) : Type 0 where
   pub form : HasSameForm old.held new.held
@@ -76,11 +97,12 @@ module _ {W : Type 0} (tells : Type 0) (state : W → State) (old new : Kept W) 
   same_frames : new.log.frames ≡ old.log.frames
   same_frames = ap (λ (l : Log). l.frames) still.log
 
-  pub still_well : new.active.commits ≡ old.active.commits → IsWell state old → IsWell state new
-  still_well commits well = record {
+  pub still_well : new.active.commits ≡ old.active.commits → (AreStored old.active.xacts → AreStored new.active.xacts) → IsWell state old → IsWell state new
+  still_well commits keeps well = record {
     store = well.store;
     has = only_reads.store well.store well.has;
     few = omega (arith, well.few, commits, same_frames);
+    stored = keeps well.stored;
   }
 
   abbrev pub still_has : tells → (m : Machine) (works : WorksFor state old m) → HasLife no_parts (acked m) m works.life works.restart works.marks (opening_of state new)
@@ -137,6 +159,7 @@ module _ {W : Type 0} (tells : Type 0) (state : W → State) (old new : Kept W) 
   before_still same = record {
     error = still.error;
     frames = same_frames;
+    durable = ap (λ (l : Log). l.durable) still.log;
     site = still.same;
     works = λ t m works. works_same t same m works;
   }
@@ -153,7 +176,7 @@ pub record IsAnswered {W : Type 0} (state : W → State) (session : ℕ) (call :
 
 module _ {W : Type 0} (tells : Type 0) (state : W → State) (counts : W → Counts) (session : ℕ) (call : Call) (old new : Kept W)
     (Holds : (m : Machine) → WorksFor state old m → Type 0) (still : Still tells state old new) (well : IsWell state old) (whole : old.error ≡ None)
-    (count : new.active.commits ≡ old.active.commits) (fell : NoneFell (counts old.site) (counts new.site)) where
+    (count : new.active.commits ≡ old.active.commits) (keeps : AreStored old.active.xacts → AreStored new.active.xacts) (fell : NoneFell (counts old.site) (counts new.site)) where
   pub still_answered : (reply : Reply)
       → (tells → (m : Machine) (works : WorksFor state old m) → Holds m works → IsAnswered state session call old new m works reply)
       → Does tells state counts session call old new Holds (Ok reply)
@@ -164,6 +187,7 @@ module _ {W : Type 0} (tells : Type 0) (state : W → State) (counts : W → Cou
           reply_is = is.reply_is;
           works = works_still tells state old new still t session call m works is.leaves is.active is.written;
           frames = omega (arith, ap (λ (l : Log). l.frames) still.log, ap length is.leaves.none);
+          durable = ap (λ (l : Log). l.durable) still.log ∙ sym (nothing_synced m session call old is.leaves.none);
           room = λ full. is.leaves.none;
         };
     moments = λ t m works holds. same_moment (still.same t);
@@ -172,7 +196,7 @@ module _ {W : Type 0} (tells : Type 0) (state : W → State) (counts : W → Cou
     full = λ t m works holds. tt;
     sound = λ t. tt;
     steady = still.error ∙ whole;
-    well = still_well tells state old new still count well;
+    well = still_well tells state old new still count keeps well;
     none_fell = fell;
   }
 
@@ -189,7 +213,7 @@ module _ {W : Type 0} (tells : Type 0) (state : W → State) (counts : W → Cou
     full = λ t m works holds n is. absurd (other n is);
     sound = sound;
     steady = tt;
-    well = still_well tells state old new still count well;
+    well = still_well tells state old new still count keeps well;
     none_fell = fell;
   }
 

@@ -75,6 +75,7 @@ well_anywhere state core site well = record {
   store = well.store;
   has = store_anywhere well.store (state core.site) (state site) core.held core.log well.has;
   few = well.few;
+  stored = well.stored;
 }
 
 module _ {W : Type 0} (state : W → State) (core : Kept W) (site : W) (m : Machine) where

@@ -19,7 +19,7 @@ use Rattle.px_core.specs.Serving.{Walks}
 use Rattle.px_core.specs.Working.{WorksFor}
 use Rattle.px_core.specs.declared.error.CoreError.{CoreError}
 use Rattle.px_core.specs.declared.state.Kept.{Kept}
-use Rattle.px_core.proofs.Still.{Still, before_still, still_well, well_sound}
+use Rattle.px_core.proofs.Still.{Still, before_still, same_stored, still_well, well_sound}
 
 read_cause : {W : Type 0} (counts : W → Counts) (old new : Kept W) (error : HeldError) → held_errors.HasReadCause (counts old.site) (counts new.site) error
     → HasRowCause counts old new (of_held error)
@@ -57,7 +57,7 @@ module _ {W : Type 0} (tells : Type 0) (state : W → State) (counts : W → Cou
         works = (before_still tells state old new still same).works;
         cause = cause;
         sound = sound;
-        well = still_well tells state old new still (ap (λ (a : Active). a.commits) same) well;
+        well = still_well tells state old new still (ap (λ (a : Active). a.commits) same) (same_stored old.active new.active same) well;
         none_fell = reads.stays.none_fell;
       }
 

@@ -7,6 +7,7 @@ use Rattle.px_active.specs.Active.{IsActiveOf}
 use Rattle.px_active.specs.declared.active.Active.{Active}
 use Rattle.px_answers.specs.Writing.{reply_done}
 use Rattle.px_appending.specs.Versions.{FitsFields, MayBeAppended}
+use Rattle.px_calls.specs.Histories.{by}
 use Rattle.px_calls.specs.declared.call.Call.{Call}
 use Rattle.px_calls.specs.declared.call.Call.TheVariants.{Commit, Delete, Insert, Update}
 use Rattle.px_calls.specs.declared.reply.Reply.{Reply}
@@ -38,6 +39,7 @@ use Rattle.px_logged.specs.Logged.{logged}
 use Rattle.px_model.specs.declared.machine.Open.{Open}
 use Rattle.px_model.specs.declared.write.Write.{Write}
 use Rattle.px_model.specs.declared.write.Write.TheVariants.{Put, Delete as DeleteRow}
+use Rattle.px_engine.specs.Frames.{syncs}
 use Rattle.px_model.specs.Machine.{Machine, commits}
 use Rattle.px_model.specs.Rows.{key_written}
 use Rattle.px_recs.specs.Text.{SlotFits}
@@ -71,7 +73,7 @@ use Rattle.px_core.proofs.Appended.{FollowsBy, IsFramed}
 use Rattle.px_core.proofs.Behind.{does_behind}
 use Rattle.px_core.proofs.Ending.{unmoved}
 use Rattle.px_core.proofs.Leaving.{refused_leaves}
-use Rattle.px_core.proofs.Still.{Still, out_of_memory, read_refused, still_answered, still_well, well_sound}
+use Rattle.px_core.proofs.Still.{Still, out_of_memory, read_refused, same_stored, still_answered, still_well, well_sound}
 
 -- ---- a version
 
@@ -260,6 +262,12 @@ small_meets (Update table key tag body) small = inr refl
 small_meets (Delete table key) small = inr refl
 small_meets _ small = absurd small
 
+pub small_quiet : (m : Machine) (session : ℕ) (call : Call) → IsSmallWrite call → syncs m (by session call) ≡ false
+small_quiet m session (Insert table key tag body) small = refl
+small_quiet m session (Update table key tag body) small = refl
+small_quiet m session (Delete table key) small = refl
+small_quiet m session _ small = absurd small
+
 pub write_no_end : (call : Call) → is_write call ≡ true → (P : Type 0) → UnlessEnd call P
 write_no_end (Insert table key tag body) writes P = tt
 write_no_end (Update table key tag body) writes P = tt
@@ -295,6 +303,7 @@ module _ {W : Type 0} (tells : Type 0) (state : W → State) (counts : W → Cou
   write_gives_up error finds =
       let same = finds_same (Err error) finds in
       read_refused tells state counts session call old mid (λ m works. ⊤) (finds_still (Err error) finds) well whole (ap (λ (a : Active). a.commits) same)
+      (same_stored old.active mid.active same)
       finds.reads.stays.none_fell same (write_no_end call writes) error finds.reads.cause.fault
       (meets_own call (counts old.site) (counts mid.site) error writes finds.reads.cause.fault)
       (λ t. finds.reads.cause.sound t old.held.short well.store well.has.serves (well_sound state old well))
@@ -303,7 +312,7 @@ module _ {W : Type 0} (tells : Type 0) (state : W → State) (counts : W → Cou
   write_refused reply finds =
       let same = finds_same (Ok (Err reply)) finds in
       still_answered tells state counts session call old mid (λ m works. ⊤) (finds_still (Ok (Err reply)) finds) well whole
-      (ap (λ (a : Active). a.commits) same) finds.reads.stays.none_fell reply
+      (ap (λ (a : Active). a.commits) same) (same_stored old.active mid.active same) finds.reads.stays.none_fell reply
       (λ t m works holds.
       let is = finds.refused t m works in
       let refused : is_refusal (reply_of m session call) ≡ true = ap is_refusal (sym is) ∙ finds.refusal in
@@ -324,7 +333,8 @@ module _ {W : Type 0} (tells : Type 0) (state : W → State) (counts : W → Cou
 
   pub write_well : (result : Result (Result Ready Reply) HeldError) → Finds tells state counts session call old mid result → IsWell state mid
   write_well result finds =
-      still_well tells state old mid (finds_still result finds) (ap (λ (a : Active). a.commits) (finds_same result finds)) well
+      still_well tells state old mid (finds_still result finds) (ap (λ (a : Active). a.commits) (finds_same result finds))
+      (same_stored old.active mid.active (finds_same result finds)) well
 
 -- ---- want of memory
 
@@ -333,4 +343,4 @@ pub no_memory : {W : Type 0} (tells : Type 0) (state : W → State) (counts : W 
     → Does tells state counts session call old (record old { active = active }) Holds (Err OutOfMemory)
 no_memory tells state counts session call old active Holds same well whole small =
     out_of_memory tells state counts session call old (record old { active = active }) Holds (unmoved tells state old active) well whole
-    (ap (λ (a : Active). a.commits) same) no_fall same (small_no_end call small _)
+    (ap (λ (a : Active). a.commits) same) (same_stored old.active active same) no_fall same (small_no_end call small _)

@@ -4,6 +4,7 @@ use Rattle.px_site.specs.declared.error.Fault.{Fault}
 use Rattle.px_site.specs.declared.error.Fault.TheVariants.{Read, Sync, Write}
 use Rattle.px_site.specs.Cause.{Counts, Rose}
 use Rattle.px_site.specs.State.{State}
+use Rattle.px_active.specs.Active.{AreStored}
 use Rattle.px_calls.specs.declared.call.Call.{Call}
 use Rattle.px_calls.specs.declared.call.Call.TheVariants.{Begin, Get, Hold, Fetch, Find, Scan, Insert, Update, Delete, Commit, Rollback}
 use Rattle.px_history.specs.Store.{Store}
@@ -17,15 +18,21 @@ use Rattle.px_core.specs.declared.error.CoreError.TheVariants.{OutOfMemory, Faul
 abbrev pub opening_of : {W : Type 0} → (W → State) → Kept W → Opening
 opening_of state core = opening (state core.site) core.held core.log
 
--- Whatever the site has: the tables are those of some store, the log takes its changes, and each commit has a frame.
+-- Whatever the site has: the tables are those of some store, the log takes its changes, each commit has a frame, and each unswept write a
+-- stored number.
 pub record IsWell {W : Type 0} (state : W → State) (core : Kept W) : Type 0 where
   pub store : Store
   pub has : HasStore store (opening_of state core)
   pub few : core.active.commits ≤ core.log.frames
+  pub stored : AreStored core.active.xacts
 
 -- the number of the next frame
 abbrev pub frames_of : {W : Type 0} → Kept W → ℕ
 frames_of core = core.log.frames
+
+-- how many frames are synced
+abbrev pub durable_of : {W : Type 0} → Kept W → ℕ
+durable_of core = core.log.durable
 
 -- ---- calls by what they do to the cells and to the log
 

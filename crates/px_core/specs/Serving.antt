@@ -1,6 +1,6 @@
 -- What a session's call does to what a core keeps, where that has no error.
 use Rattle.std.specs.Prelude.{◌≡◌, ⊤, ℕ, ◌+◌, ◌<◌, true, length, Option, Some, None, Result, IfOk, IfErr, IsSomeAnd, OnOk, OnErr}
-use Rattle.px_active.specs.Active.{IsActiveOf, MayTake}
+use Rattle.px_active.specs.Active.{AreStored, IsActiveOf, MayTake}
 use Rattle.px_answers.specs.Reading.{ReadsOnly}
 use Rattle.px_answers.specs.Writing.{reply_done}
 use Rattle.px_calls.specs.declared.call.Call.{Call}
@@ -51,6 +51,7 @@ pub record Reads {W : Type 0} (tells : Type 0) (state : W → State) (counts : W
   pub reads : ReadsOnly tells state counts old.site new.site old.held new.held result
   pub meets : IfErr result (MeetsOwn call)
   pub commits : new.active.commits ≡ old.active.commits
+  pub stored : AreStored old.active.xacts → AreStored new.active.xacts
   pub err : OnErr result (new.active ≡ old.active)
   pub written : (store : Store) → AreWrittenAt old.active.xacts store → OnOk result (AreWrittenAt new.active.xacts store)
   pub reply : tells → (m : Machine) → WorksFor state old m → IfOk result (λ reply. reply ≡ reply_of m session call)

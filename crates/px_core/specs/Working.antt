@@ -1,5 +1,5 @@
 -- A core that works for a machine, and what a session's call does to it.
-use Rattle.std.specs.Prelude.{◌≡◌, ◌≢◌, ◌⊎◌, ℕ, ◌+◌, ◌≤◌, true, [], length, Some, None}
+use Rattle.std.specs.Prelude.{◌≡◌, ◌≢◌, ◌⊎◌, ℕ, ◌+◌, ◌≤◌, true, [], length, Some, None, if◌then◌else◌}
 use Rattle.px_site.specs.declared.error.Fault.{Fault}
 use Rattle.px_site.specs.declared.error.Fault.TheVariants.{Read}
 use Rattle.px_site.specs.declared.error.SiteError.{SiteError}
@@ -10,12 +10,15 @@ use Rattle.px_model.specs.Machine.{Machine, commits}
 use Rattle.px_model.specs.Rows.{in_order}
 use Rattle.px_calls.specs.declared.call.Call.{Call}
 use Rattle.px_calls.specs.declared.reply.Reply.{Reply}
+use Rattle.px_calls.specs.Histories.{Step, by}
 use Rattle.px_calls.specs.Steps.{reply_of, state_after}
 use Rattle.px_active.specs.Active.{IsActiveOf}
 use Rattle.px_active.specs.declared.active.Active.{Active}
 use Rattle.px_cell_laws.specs.Locating.{AreWrittenAt}
 use Rattle.px_cell_standing.specs.Found.{CanBeFound}
 use Rattle.px_cell_standing.specs.Images.{StandsBetween}
+use Rattle.px_engine.specs.Engine.{Engine}
+use Rattle.px_engine.specs.Frames.{step_frames, syncs}
 use Rattle.px_life.specs.Life.{Life}
 use Rattle.px_log.specs.Log.{most_frames}
 use Rattle.px_logged.specs.Logged.{logged}
@@ -27,7 +30,7 @@ use Rattle.px_tidying.specs.Opening.{HasLife, Opening}
 use Rattle.px_working.specs.Follows.{last_store}
 use Rattle.px_working.specs.Works.{Works}
 use Rattle.px_xacts.specs.Transactions as xacts
-use Rattle.px_core.specs.Core.{HasCallCause, OnlyCommit, frames_of, opening_of}
+use Rattle.px_core.specs.Core.{HasCallCause, OnlyCommit, durable_of, frames_of, opening_of}
 use Rattle.px_core.specs.declared.state.Kept.{Kept}
 use Rattle.px_core.specs.declared.error.CoreError.{CoreError}
 use Rattle.px_core.specs.declared.error.CoreError.TheVariants.{OutOfMemory, Fault as FaultOf, LogFull, Damaged, Broken}
@@ -57,13 +60,22 @@ pub record MayBegin (m : Machine) (life : Life) (restart : Restart) (marks : Mar
   pub active_is : IsActiveOf m active
   pub fresh : active.xacts ≡ xacts.fresh m.base
 
+-- the engine that a core is, where it works for the machine
+abbrev pub engine_of : {W : Type 0} → Kept W → Machine → Engine
+engine_of core m = record { machine = m; frames = frames_of core; durable = durable_of core }
+
 -- ---- a session's call
+
+-- how many frames are synced after a step of the machine: all of them where it syncs
+abbrev pub durable_after : {W : Type 0} → Machine → Step → (old : Kept W) → ℕ
+durable_after m step old = if syncs m step then frames_of old + step_frames m step else durable_of old
 
 -- it was answered: as the machine replies, for which the core works on; and what it adds to the log is on the site
 pub record Answers {W : Type 0} (state : W → State) (session : ℕ) (call : Call) (m : Machine) (old new : Kept W) (reply : Reply) : Type 0 where
   pub reply_is : reply ≡ reply_of m session call
   pub works : WorksFor state new (state_after m session call)
   pub frames : frames_of new ≡ frames_of old + length (logged m session call)
+  pub durable : durable_of new ≡ durable_after m (by session call) old
   -- where the log takes no more, nothing was to be added
   pub room : most_frames ≤ frames_of old → logged m session call ≡ []
 
@@ -78,6 +90,7 @@ StandsWithin state session call m old new =
 pub record AsBefore {W : Type 0} (tells : Type 0) (state : W → State) (old new : Kept W) : Type 0 where
   pub error : new.error ≡ old.error
   pub frames : frames_of new ≡ frames_of old
+  pub durable : durable_of new ≡ durable_of old
   pub site : tells → state new.site ≡ state old.site
   pub works : tells → (m : Machine) → WorksFor state old m → WorksFor state new m
 

@@ -1,4 +1,5 @@
 ghost use Rattle.std.specs.Prelude.{◌≡◌, ◌≤◌, None};
+ghost use Rattle.px_active.specs.Active.{AreStored};
 ghost use Rattle.px_cell_standing.specs.Found.{HoldsStore};
 ghost use Rattle.px_history.specs.Store.{Store};
 ghost use Rattle.px_model.specs.Machine.{Machine};
@@ -11,10 +12,12 @@ ghost use Rattle.px_restart.specs.declared.restart.Restart.{Restart};
 ghost use Rattle.px_core.specs.Working.{MayBegin, WorksFor};
 
 mod calls;
+mod counting;
 mod ending;
 mod logging;
 mod reading;
 mod rows;
+mod sweeping;
 mod writing;
 
 use px_active::Active;
@@ -70,6 +73,7 @@ impl<W: Site> Core<W> {
     pub fn new(alloc: Global, site: W, held: Held, active: Active, log: Xlog) -> Core<W>
         requires store { (store : Store) × HasStore store (opening (W.state site) held log) }
         requires few { active.commits ≤ log.frames }
+        requires stored { AreStored active.xacts }
         ensures is { result ≡ record { alloc = alloc; site = site; held = held; active = active; log = log; error = None } }
         ensures works { (m : Machine) (life : Life) (restart : Restart) (marks : Marks)
             → MayBegin m life restart marks (opening (W.state site) held log) active → WorksFor W.state result m }

@@ -4,7 +4,7 @@ ghost use Rattle.px_log.specs.Touching.{TouchesLog};
 ghost use Rattle.px_history.specs.Store.{Store};
 ghost use Rattle.px_site.specs.Cause.{HasCause, IsOwn, NoneFell};
 ghost use Rattle.px_tidying.specs.Opening.{HasStore};
-ghost use Rattle.px_core.specs.Core.{frames_of, opening_of};
+ghost use Rattle.px_core.specs.Core.{durable_of, frames_of, opening_of};
 ghost use Rattle.px_core.specs.Errors.{kept_after, of_log};
 ghost use Rattle.px_core.specs.Working.{Breaks};
 
@@ -37,6 +37,7 @@ impl<W: Site> Kept<W> {
         ensures moments { LastsThere W.tells (opening_of W.state self.old) (opening_of W.state self.new) }
         ensures touches { W.tells → TouchesLog 1 (W.state self.old.site) (W.state self.new.site) }
         ensures frames { frames_of self.new ≡ frames_of self.old }
+        ensures marks { OnOk result (durable_of self.new ≡ frames_of self.old) }
         ensures rest { self.new ≡ record self.old { site = self.new.site; log = self.new.log; error = self.new.error } }
         ensures still { OnOk result (self.new.error ≡ self.old.error) }
         ensures breaks { IfErr result (λ error. Breaks error self.new) }

@@ -1,6 +1,7 @@
-use Rattle.std.proofs.Common.{◌≡◌, true, ◌+◌, ◌<◌, ◌^◌, refl, sym, ap, ◌∙◌, inl, arith}
+use Rattle.std.proofs.Common.{◌≡◌, true, ◌+◌, ◌<◌, ◌^◌, refl, sym, ap, subst, ◌∙◌, inl, arith}
 use Rattle.std.proofs.lemmas.Result.{err_from_is_err_and}
 use Rattle.std.specs.Prelude.{⊤}
+use Rattle.px_active.specs.Active.{AreStored}
 use Rattle.px_active.specs.declared.active.Active.{Active}
 use Rattle.px_calls.specs.declared.call.Call.TheVariants.{Commit}
 use Rattle.px_history.specs.Steps.{Step}
@@ -19,7 +20,7 @@ returns-in_default g c =
     empty_end_does g.W.Site.tells g.W.Site.state g.W.Site.counts c.args.session true old new c.end.result (λ m works. ⊤)
     (record { reply_is = c.end.ensures.reply; active = c.end.ensures.active; xacts = c.end.ensures.xacts })
     (unmoved g.W.Site.tells g.W.Site.state old c.end.new.self) c.requires.well c.requires.whole
-    (c.end.ensures.commits ∙ none_counted old.active c.args.session true (sym c.writer.ensures.is ∙ c.in_default.is)) no_fall
+    (c.end.ensures.commits ∙ none_counted old.active c.args.session true (sym c.writer.ensures.is ∙ c.in_default.is)) c.end.ensures.stored no_fall
     (λ m works. empty_commit_leaves m c.args.session (c.in_default.ensures.who m works.active))
 
 pub returns-in-Err : goal.returns-in-Err
@@ -70,6 +71,7 @@ returns-in_err-sync g c =
       moments = c.append_end.ensures.moments old.held;
       touches = c.append_end.ensures.touches;
       frames = c.in_default-append_end.ensures.frames;
+      durable = c.append_end.ensures.shape.durable;
       room = had_room old.log c.in_default-append_end.field-0 c.in_default-append_end.ensures.full;
       none_fell = c.append_end.ensures.none_fell;
     } in
@@ -103,6 +105,7 @@ returns g c =
       moments = c.append_end.ensures.moments old.held;
       touches = c.append_end.ensures.touches;
       frames = c.in_default-append_end.ensures.frames;
+      durable = c.append_end.ensures.shape.durable;
       room = had_room old.log c.in_default-append_end.field-0 c.in_default-append_end.ensures.full;
       none_fell = c.append_end.ensures.none_fell;
     } in
@@ -121,6 +124,7 @@ returns g c =
     (λ m works. commit_step state c.args.session xn number old m works (c.in-Some.ensures.who m works.active) (ap (λ n. n + 1) works.active.commits) small)
     c.end-2.result (c.in_ok-sync.ensures.still ∙ c.requires.whole)
     (let count = ap (λ (a : Active). a.commits) same in omega (arith, count, c.end-2.ensures.few))
+    (λ stored. c.end-2.ensures.stored (subst (λ (a : Active). AreStored a.xacts) (sym same) stored)) c.in_ok-sync.ensures.marks
     c.in_ok-sync.ensures.flushed
     (λ m works. commit_framed tells state counts c.args.session xn number old new c.end-2.result (λ m works. ⊤) ends m works
     (c.in-Some.ensures.who m works.active) (ap (λ n. n + 1) works.active.commits) small)

@@ -1,5 +1,6 @@
-use Rattle.std.proofs.Common.{◌≡◌, ℕ, List, refl, ap, subst, ◌∙◌, arith}
+use Rattle.std.proofs.Common.{◌≡◌, ℕ, List, refl, sym, ap, subst, ◌∙◌, arith}
 use Rattle.std.proofs.lemmas.Result.{err_from_is_err_and}
+use Rattle.px_active.specs.Active.{AreStored}
 use Rattle.px_appending.specs.Appending.{GoesOn, LastsOn}
 use Rattle.px_held.specs.Linking.{step_of}
 use Rattle.px_history.specs.Steps.{Step, after_step}
@@ -15,7 +16,7 @@ use Rattle.px_core.specs.Working.{WorksFor}
 use Rattle.px_core.specs.declared.state.Kept.{Kept}
 use Rattle.px_core.proofs.Appended.{Appends, Fails, fails_does, framed_does, had_room, stands_on}
 use Rattle.px_core.proofs.Ending.{some_logged}
-use Rattle.px_core.proofs.Writing.{answered, append_ready, fits_written, header_fits, key_taken, no_memory, on_shortage, put_header, put_slot, slot_fits, small_meets, small_no_end, write_commits, write_follows, write_framed, write_logged}
+use Rattle.px_core.proofs.Writing.{answered, append_ready, fits_written, header_fits, key_taken, no_memory, on_shortage, put_header, put_slot, slot_fits, small_meets, small_no_end, small_quiet, write_commits, write_follows, write_framed, write_logged}
 use Rattle.px_core.proofs.state.Kept.put.Goals as goal
 
 pub returns-in_err-free : goal.returns-in_err-free
@@ -124,12 +125,14 @@ returns g c =
       moments = subst (λ (s : Step). LastsOn tells s (opening_of state old) (opening_of state new)) step_is c.append_version.ensures.moments;
       touches = c.append_version.ensures.touches;
       frames = c.in_default.ensures.frames;
+      durable = c.append_version.ensures.shape.durable;
       room = had_room old.log c.in_default.field-0 c.in_default.ensures.full;
       none_fell = c.append_version.ensures.none_fell;
     } in
     let noted = c.in_ok-free.ensures.noted in
     framed_does tells state counts session call old new (λ m works. MayPut m (last_store works.life) session call ready) step c.reply_done-done.result appends
     c.requires.well c.requires.whole (let count = c.write.ensures.commits in omega (arith, count))
+    (λ stored. subst AreStored (sym noted.xacts) stored) (λ m. small_quiet m session call room.small)
     (λ t m works may. (
       write_framed state session call ready old w slot is room.small fits c.requires.well c.version-slot.ensures m works may c.reply_done-done.result new at places its_slot
           c.reply_done-done.ensures

@@ -17,7 +17,7 @@ returns-in_default g c =
     empty_end_does g.W.Site.tells g.W.Site.state g.W.Site.counts c.args.session false old new c.end.result (λ m works. ⊤)
     (record { reply_is = c.end.ensures.reply; active = c.end.ensures.active; xacts = c.end.ensures.xacts })
     (unmoved g.W.Site.tells g.W.Site.state old c.end.new.self) c.requires.well c.requires.whole
-    (c.end.ensures.commits ∙ none_counted old.active c.args.session false (sym c.writer.ensures.is ∙ c.in_default.is)) no_fall
+    (c.end.ensures.commits ∙ none_counted old.active c.args.session false (sym c.writer.ensures.is ∙ c.in_default.is)) c.end.ensures.stored no_fall
     (λ m works. empty_rollback_leaves m c.args.session (c.in_default.ensures.who m works.active))
 
 pub returns-in-Err : goal.returns-in-Err
@@ -61,12 +61,13 @@ returns g c =
       moments = c.append_end.ensures.moments old.held;
       touches = c.append_end.ensures.touches;
       frames = c.in_default-append_end.ensures.frames;
+      durable = c.append_end.ensures.shape.durable;
       room = had_room old.log c.in_default-append_end.field-0 c.in_default-append_end.ensures.full;
       none_fell = c.append_end.ensures.none_fell;
     } in
     let ends : EndsInMemory c.args.session false old new c.end-2.result = record { reply_is = c.end-2.ensures.reply; active = c.end-2.ensures.active; xacts = c.end-2.ensures.xacts } in
     framed_does tells state counts c.args.session Rollback old new (λ m works. ⊤) (Step.rollback xn) c.end-2.result appends c.requires.well c.requires.whole
-    c.end-2.ensures.few
+    c.end-2.ensures.few c.end-2.ensures.stored (λ m. refl)
     (λ t m works holds. (
       rollback_framed tells state counts c.args.session xn old new c.end-2.result (λ m works. ⊤) ends m works (c.in-Some.ensures.who m works.active),
       rollback_commits m c.args.session,
