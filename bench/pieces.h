@@ -18,7 +18,7 @@ static int new_file(void)
     return file;
 }
 
-static int write_piece(int file, const uint8_t *piece, uint32_t number)
+static inline int write_piece(int file, const uint8_t *piece, uint32_t number)
 {
     return pwrite(file, piece, PIECE_SIZE, (off_t)number * PIECE_SIZE) == PIECE_SIZE;
 }

@@ -1,7 +1,7 @@
 -- What a step and the telling of its answer leave.
 use Rattle.std.proofs.Common.{◌≡◌, ◌≢◌, ◌⊎◌, ℕ, ◌+◌, ◌≤◌, ◌==◌, Bool, true, false, cond, List, [], ◌∷◌, ◌++◌, length, take, Option, Some, None, Result, Ok, Err, refl, sym, ap, subst, ◌∙◌, inl, inr, arith}
-use Rattle.std.specs.Prelude.{nat_lt, slice_get, ◌&&◌}
-use Rattle.std.specs.Result.{IfErr}
+use Rattle.std.specs.Prelude.{slice_get}
+use Rattle.std.specs.Result.{IfErr, OnOk}
 use Rattle.std.proofs.lemmas.Bool.{cases_lt}
 use Rattle.std.proofs.lemmas.List.{nil_from_length}
 use Rattle.px_site.specs.declared.error.Fault.{Fault}
@@ -11,12 +11,10 @@ use Rattle.px_site.specs.Cause.{Counts, NoneFell, Rose}
 use Rattle.px_site.proofs.Moments.{same_moment, then_moments, weaker_moments}
 use Rattle.px_site.specs.declared.error.SiteError.TheVariants.{OutOfMemory as SiteShort, Fault as SiteFault}
 use Rattle.px_site.specs.declared.name.FileName.{FileName}
-use Rattle.px_chain_laws.specs.Sweeping.{base_of}
 use Rattle.px_model.specs.declared.machine.Flat.{Flat}
 use Rattle.px_model.specs.declared.machine.Open.{Open}
 use Rattle.px_model.specs.declared.write.Write.{Write as RowWrite}
-use Rattle.px_model.specs.Machine.{Machine, flat, horizon}
-use Rattle.px_model.specs.Rows.{key_written}
+use Rattle.px_model.specs.Machine.{Machine, flat}
 use Rattle.px_calls.specs.declared.call.Call.{Call}
 use Rattle.px_calls.specs.declared.call.Call.TheVariants.{Get, Hold, Find, Scan, Insert, Update, Delete, Commit, Rollback}
 use Rattle.px_calls.specs.declared.reply.Reply.{Reply}
@@ -30,7 +28,7 @@ use Rattle.px_log.specs.Log.{most_frames}
 use Rattle.px_logged.specs.Logged.{put_of, end_of, logged_when_done, logged}
 use Rattle.px_engine.specs.Counts.{census_of, marks_at}
 use Rattle.px_engine.specs.Engine.{Engine, durable_with}
-use Rattle.px_engine.specs.Frames.{frames_of_due, step_frames, sweep_frames, syncs, unlinks_over}
+use Rattle.px_engine.specs.Frames.{frames_of_due, step_frames, sweep_frames, syncs}
 use Rattle.px_engine.specs.Texts.{stat_text}
 use Rattle.px_engine.specs.declared.census.Census.{Census}
 use Rattle.px_engine.specs.declared.census.Marks.{Marks}
@@ -47,7 +45,7 @@ use Rattle.px_core.specs.Working.{Answers, AsBefore, FindsFull, Leaves, Refuses,
 use Rattle.px_core.specs.Sweeping.{AnswersSweep, FindsFullSweep, LeavesSweep, RefusesSweep, StandsWithinSweep}
 use Rattle.px_play.specs.Causes.{HasPlayCause, IsUndamaged}
 use Rattle.px_play.specs.Engine.{IsEngine}
-use Rattle.px_play.specs.Serving.{HasStepEnd, Replied, ServesRight, StepStands}
+use Rattle.px_play.specs.Serving.{HasStepEnd, Replied, ServesRight, StepStands, idle_where_damaged}
 use Rattle.px_play.specs.Turns.{HasAnswerEnd, HasTellEnd, IsCommit, TellsText, WasMade, TurnsRight, KeepsWithin}
 use Rattle.px_play.proofs.Stays.{stands_whole}
 use Rattle.px_play.proofs.Acking.{answer_moments, goes, spoke_moments, step_moments}
@@ -175,6 +173,13 @@ core_ends (Broken (SiteFault fault)) = tt
 
 -- ---- a sweep
 
+-- why a sweep ends a run, and that the core keeps no error where it doesn't
+pub record SweepEnds {W : Type 0} (old new : Counts) (core : Kept W) (result : Result Reply Status) : Type 0 where
+  pub ends : IfErr result HasStepEnd
+  pub sound : IfErr result IsUndamaged
+  pub cause : IfErr result (HasPlayCause old new 0 0)
+  pub whole : OnOk result (core.error ≡ None)
+
 -- it has one frame at most
 sweep_few : (m : Machine) → sweep_frames m ≤ 1
 unfolding sweep_frames
@@ -186,7 +191,7 @@ sweep_few m = by_next (slice_get (flat m) m.swept)
 
     by_next : (next : Option Flat) → frames_of_due m next ≤ 1
     by_next None = omega arith
-    by_next (Some w) = by_due (nat_lt w.place (horizon m) && unlinks_over w (base_of m (key_written w.write)))
+    by_next (Some w) = by_due _
 
 pub sweep_replied : {W : Type 0} {state : W → State} (e : Engine) {old new : Kept W} {reply : Reply} → IsEngine state old e → StandsWithinSweep state e.machine old new → AnswersSweep state e.machine old new reply
     → Replied state e sweep old new reply
@@ -200,10 +205,10 @@ sweep_replied {W} {state} e {old} {new} {reply} engine stands answers = record {
 }
 
 pub sweep_refused : {W : Type 0} {tells : Type 0} {state : W → State} {counts : W → Counts} (e : Engine) {old new : Kept W} (error : CoreError) → tells → IsEngine state old e → StandsWithinSweep state e.machine old new
-    → RefusesSweep tells state counts old new error → FindsFullSweep e.machine old error → ServesRight state counts e sweep old new (Err (status_of error))
-sweep_refused {W} {tells} {state} {counts} e CoreShort told engine stands refuses full = record { told = told_still stands; left = inl (still told refuses.leaves engine) }
-sweep_refused e (FaultOf fault) told engine stands refuses full = told_still stands
-sweep_refused e (FullAt n) told engine stands refuses full =
+    → RefusesSweep tells state counts old new error → FindsFullSweep e.machine old error → IsPassing error → ServesRight state counts e sweep old new (idle_where_damaged error)
+sweep_refused {W} {tells} {state} {counts} e CoreShort told engine stands refuses full passing = record { told = told_still stands; left = inl (still told refuses.leaves engine) }
+sweep_refused e (FaultOf fault) told engine stands refuses full passing = told_still stands
+sweep_refused e (FullAt n) told engine stands refuses full passing =
     let is = full n refl in
     record {
       still = still told refuses.leaves engine;
@@ -212,22 +217,23 @@ sweep_refused e (FullAt n) told engine stands refuses full =
       number = is.1 ∙ engine.frames;
       none_left = is.2;
     }
-sweep_refused e (DamagedAt file place) told engine stands refuses full = told_still stands
-sweep_refused e (Broken SiteShort) told engine stands refuses full = record { told = told_still stands; left = inl (still told refuses.leaves engine) }
-sweep_refused e (Broken (SiteFault fault)) told engine stands refuses full = told_still stands
+sweep_refused e (DamagedAt file place) told engine stands refuses full passing = absurd passing
+sweep_refused e (Broken SiteShort) told engine stands refuses full passing = record { told = told_still stands; left = inl (still told refuses.leaves engine) }
+sweep_refused e (Broken (SiteFault fault)) told engine stands refuses full passing = told_still stands
 
 no_sweep_tell : (fault : Fault) → (fault ≡ Read) ⊎ (fault ≡ Write) → fault ≢ Tell
 no_sweep_tell fault (inl read) told = cc (sym read ∙ told)
 no_sweep_tell fault (inr write) told = cc (sym write ∙ told)
 
-pub sweep_cause : {W : Type 0} {tells : Type 0} {state : W → State} {counts : W → Counts} {old new : Kept W} (error : CoreError) → old.error ≡ None → RefusesSweep tells state counts old new error
-    → HasPlayCause (counts old.site) (counts new.site) 0 0 (status_of error)
-sweep_cause CoreShort whole refuses = tt
-sweep_cause (FaultOf fault) whole refuses = (no_sweep_tell fault refuses.cause.0, refuses.cause.1)
-sweep_cause (FullAt n) whole refuses = refuses.cause.1
-sweep_cause (DamagedAt file place) whole refuses = tt
-sweep_cause (Broken SiteShort) whole refuses = tt
-sweep_cause {W} {tells} {state} {counts} {old} (Broken (SiteFault fault)) whole refuses = absurd (no_error old.error (SiteFault fault) whole refuses.cause)
+-- what is left of a sweep's error: its cause, and a whole core where the sweeper is idle
+pub sweep_ended : {W : Type 0} {tells : Type 0} {state : W → State} {counts : W → Counts} {old new : Kept W} (error : CoreError) → old.error ≡ None → RefusesSweep tells state counts old new error
+    → SweepEnds (counts old.site) (counts new.site) new (idle_where_damaged error)
+sweep_ended CoreShort whole refuses = record { ends = tt; sound = tt; cause = tt; whole = tt }
+sweep_ended (FaultOf fault) whole refuses = record { ends = tt; sound = tt; cause = (no_sweep_tell fault refuses.cause.0, refuses.cause.1); whole = tt }
+sweep_ended (FullAt n) whole refuses = record { ends = tt; sound = tt; cause = refuses.cause.1; whole = tt }
+sweep_ended (DamagedAt file place) whole refuses = record { ends = tt; sound = tt; cause = tt; whole = refuses.leaves.error ∙ whole }
+sweep_ended (Broken SiteShort) whole refuses = record { ends = tt; sound = tt; cause = tt; whole = tt }
+sweep_ended {W} {tells} {state} {counts} {old} (Broken (SiteFault fault)) whole refuses = absurd (no_error old.error (SiteFault fault) whole refuses.cause)
 
 -- ---- the numbers of an engine
 

@@ -4,12 +4,16 @@ use Rattle.px_site.specs.State.{State, EachMoment}
 use Rattle.px_site.specs.Cause.{Counts}
 use Rattle.px_model.specs.Machine.{Machine, commits}
 use Rattle.px_calls.specs.declared.reply.Reply.{Reply}
+use Rattle.px_calls.specs.declared.reply.Reply.TheVariants.{Idle}
 use Rattle.px_calls.specs.declared.status.Status.{Status}
 use Rattle.px_calls.specs.declared.status.Status.TheVariants.{Damaged, DiskFault, OutOfMemory, LogFull}
 use Rattle.px_calls.specs.Histories.{Step, step_reply, step_state}
 use Rattle.px_cell_standing.specs.Images.{StandsBetween}
 use Rattle.px_standing.specs.Images.{acked}
+use Rattle.px_core.specs.declared.error.CoreError.{CoreError}
+use Rattle.px_core.specs.declared.error.CoreError.TheVariants.{Damaged as DamagedAt}
 use Rattle.px_core.specs.declared.state.Kept.{Kept}
+use Rattle.px_core.specs.Errors.{status_of}
 use Rattle.px_engine.specs.Engine.{Engine}
 use Rattle.px_engine.specs.Requests.{Ask}
 use Rattle.px_play.specs.Turns.{FoundFull, FoundShort, WasMade}
@@ -21,6 +25,11 @@ HasStepEnd (DiskFault fault) = ⊤
 HasStepEnd (LogFull n) = ⊤
 HasStepEnd OutOfMemory = ⊤
 HasStepEnd _ = ⊥
+
+-- a sweep that meets a cell that no store may have there leaves the sweeper idle; any other error ends a run
+abbrev pub idle_where_damaged : CoreError → Result Reply Status
+idle_where_damaged (DamagedAt file place) = Ok Idle
+idle_where_damaged error = Err (status_of error)
 
 -- the step was made, and this is its reply
 pub record Replied {W : Type 0} (state : W → State) (e : Engine) (step : Step) (old new : Kept W) (reply : Reply) : Type 0 where

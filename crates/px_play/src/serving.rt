@@ -9,10 +9,10 @@ ghost use Rattle.px_standing.specs.Images.{LeavesOthers};
 ghost use Rattle.px_core.specs.Working.{WorksFor};
 ghost use Rattle.px_play.specs.Causes.{HasPlayCause, IsUndamaged};
 ghost use Rattle.px_play.specs.Engine.{IsEngine};
-ghost use Rattle.px_play.specs.Serving.{HasStepEnd, ServesRight, StepStands};
+ghost use Rattle.px_play.specs.Serving.{HasStepEnd, ServesRight, StepStands, idle_where_damaged};
 
 use px_calls::{Call, Reply, Status};
-use px_core::Core;
+use px_core::{Core, CoreError};
 use px_model::Session;
 use px_site::Site;
 
@@ -36,7 +36,8 @@ pub(crate) fn make_call<W: Site>(
     Ok(core.step(session, call)?)
 }
 
-/// A step of the sweeper: its reply, or the status by which it ends a run.
+/// A step of the sweeper: its reply, or the status by which it ends a run. Where it meets a cell that no store may have there, it
+/// takes nothing and is idle: the next opening tells what is damaged.
 pub(crate) fn make_sweep<W: Site>(core: &mut Core<W>) -> Result<Reply, Status>
     requires { core.old.error ≡ None }
     ensures ends { IfErr result HasStepEnd }
@@ -49,5 +50,18 @@ pub(crate) fn make_sweep<W: Site>(core: &mut Core<W>) -> Result<Reply, Status>
     ensures others { W.tells → (m : Machine) → WorksFor W.state core.old m
         → EachMoment (LeavesOthers (W.state core.old.site).now) (W.state core.old.site) (W.state core.new.site) }
 {
-    Ok(core.sweep()?)
+    match core.sweep() {
+        Ok(reply) => Ok(reply),
+        Err(error) => idle_where_damaged(error),
+    }
+}
+
+/// What comes of a sweep's error.
+fn idle_where_damaged(error: CoreError) -> Result<Reply, Status>
+    ensures { result ≡ idle_where_damaged error }
+{
+    match error {
+        CoreError::Damaged { .. } => Ok(Reply::Idle),
+        error => Err(Status::from(error)),
+    }
 }

@@ -66,6 +66,7 @@ module _ (restart : Restart) (opened : Cells) (found : Found) (o : Opening) (act
       redone = (given.redone_are ∙ sym are.redone_are) i;
     };
     frames = ap (λ (log : Log). log.frames) given.log ∙ sym are.frames;
+    durable = given.works.durable ∙ ap (λ (log : Log). log.frames) given.log ∙ sym are.frames;
     life = given.works.life;
     restart = restart;
     marks = given.works.marks;

@@ -3,7 +3,7 @@ use Rattle.std.specs.Prelude.{◌≡◌, ℕ, ◌-◌, List, [], length, None, R
 use Rattle.std.specs.declared.alloc.Global.{Global}
 use Rattle.px_active.specs.declared.active.Active.{Active}
 use Rattle.px_change.specs.declared.change.Change.{Change}
-use Rattle.px_core.specs.Core.{frames_of}
+use Rattle.px_core.specs.Core.{durable_of, frames_of}
 use Rattle.px_core.specs.Working.{MayBegin, WorksFor}
 use Rattle.px_core.specs.declared.state.Kept.{Kept}
 use Rattle.px_laid.specs.Places.{none_laid}
@@ -45,16 +45,18 @@ pub record OpensAs (files : Files) (report : OpenReport) : Type 0 where
   pub commits_are : report.commits ≡ commits_by restart changes
   pub redone_are : report.redone ≡ length changes - restart.redo
 
--- what was opened is this, and the core works for the machine that starts there
+-- what was opened is this, all of its log synced, and the core works for the machine that starts there
 pub record OpensTo {W : Type 0} (state : W → State) (found : Found) (core : Kept W) (report : OpenReport) : Type 0 where
   pub report_is : report ≡ report_of found
   pub frames : frames_of core ≡ found.frames
+  pub durable : durable_of core ≡ found.frames
   pub works : WorksFor state core (machine_of found)
 
 -- the same without the core: the machine that starts there may begin to work
 pub record BeginsWith (found : Found) (o : Opening) (active : Active) (report : OpenReport) : Type 0 where
   pub report_is : report ≡ report_of found
   pub frames : o.log.frames ≡ found.frames
+  pub durable : o.log.durable ≡ found.frames
   pub life : Life
   pub restart : Restart
   pub marks : Marks

@@ -10,7 +10,7 @@ ghost use Rattle.px_standing.specs.Files.{HasNoRestart};
 ghost use Rattle.px_recovery.specs.Errors.{CountsFault, FindsNoRoom, HasRefusal, IsAbsence, IsPassing, KeepsContent, SaysNothing};
 ghost use Rattle.px_recovery.specs.Opening.{BeginsWith, OpensAs, OpensTo, TellsNothing, core_of, site_after};
 ghost use Rattle.px_recovery.specs.Touching.{SettlesLater, TouchesOwnFiles};
-ghost use Rattle.px_active.specs.Active.{IsActiveOf};
+ghost use Rattle.px_active.specs.Active.{AreStored, IsActiveOf};
 ghost use Rattle.px_cell_opening.specs.Opened.{WorksFrom};
 ghost use Rattle.px_core.specs.Working.{MayBegin, WorksFor};
 ghost use Rattle.px_history.specs.Store.{Store};
@@ -119,6 +119,7 @@ impl Parts {
     fn over<W: Site>(self, alloc: Global, site: W) -> Opened<W>
         requires store { (store : Store) × HasStore store (opening (W.state site) self.held self.log) }
         requires few { self.active.commits ≤ self.log.frames }
+        requires stored { AreStored self.active.xacts }
         ensures core { result.core ≡ core_of alloc site self }
         ensures report { result.report ≡ self.report }
         ensures works { (m : Machine) (life : Life) (restart : Restart) (marks : Marks)
@@ -145,6 +146,7 @@ fn open_parts<W: Site>(alloc: Global, site: &mut W) -> Result<Parts, OpenError>
         → IfOk result (λ parts. BeginsWith found (opening (W.state site.new) parts.held parts.log) parts.active parts.report) }
     ensures store { IfOk result (λ parts. (store : Store) × HasStore store (opening (W.state site.new) parts.held parts.log)) }
     ensures few { IfOk result (λ parts. parts.active.commits ≤ parts.log.frames) }
+    ensures unswept { IfOk result (λ parts. AreStored parts.active.xacts) }
     ensures moments { W.tells → (commits : ℕ) (rows : List Row) → Settled (W.state site.old) commits rows
         → EachMoment (KeepsStanding commits rows (W.state site.old).now) (W.state site.old) (W.state site.new) }
     ensures quiet { W.tells → EachMoment (TellsNothing (W.state site.old).now) (W.state site.old) (W.state site.new) }
@@ -188,6 +190,7 @@ fn parts_of<W: Site>(
     ensures log { IfOk result (λ parts. parts.log ≡ cells.log) }
     ensures store { IfOk result (λ parts. (store : Store) × HasStore store (opening (W.state site.new) parts.held parts.log)) }
     ensures few { IfOk result (λ parts. parts.active.commits ≤ parts.log.frames) }
+    ensures unswept { IfOk result (λ parts. AreStored parts.active.xacts) }
     ensures same { W.tells → W.state site.new ≡ W.state site.old }
     ensures sound { W.tells → IfErr result SaysNothing }
     ensures fault { IfErr result (CountsFault (W.counts site.old) (W.counts site.new)) }

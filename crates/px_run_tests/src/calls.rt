@@ -4,7 +4,7 @@ use std::test::Fail;
 
 /// Calls of the program one after the other: whether the site is a new one, the words, the input, what is told, and the
 /// exit status.
-const CALLS: [(bool, &str, &str, &str, u8); 34] = [
+const CALLS: [(bool, &str, &str, &str, u8); 41] = [
     (true, "make 1 64", "", "made 1 64\n", 0),
     (false, "run", "", "opened commits 0 rows 0 redone 0\n", 0),
     (false, "dump", "", "rows 0\n", 0),
@@ -65,6 +65,15 @@ const CALLS: [(bool, &str, &str, &str, u8); 34] = [
          stat commits 0 open 1 unswept 0 variations 1 live 0 held 0 frames 4 durable 0 applied 0 redo 0\n",
         0,
     ),
+    // the version that was never committed goes in a frame of the opening, which is synced
+    (
+        false,
+        "run",
+        "stat\nsweeper\n",
+        "opened commits 0 rows 0 redone 4\n\
+         stat commits 0 open 0 unswept 0 variations 0 live 0 held 0 frames 5 durable 5 applied 0 redo 0\nidle\n",
+        0,
+    ),
     // a snapshot holds the sweeper back, and of a deletion nothing stays
     (true, "make 1 64", "", "made 1 64\n", 0),
     (
@@ -87,6 +96,50 @@ const CALLS: [(bool, &str, &str, &str, u8); 34] = [
          stat commits 2 open 1 unswept 1 variations 2 live 0 held 0 frames 4 durable 4 applied 0 redo 0\nended\nswept 3\n\
          stat commits 2 open 0 unswept 0 variations 1 live 0 held 0 frames 5 durable 4 applied 0 redo 0\n",
         0,
+    ),
+    (
+        false,
+        "run",
+        "stat",
+        "opened commits 2 rows 1 redone 5\n\
+         stat commits 2 open 0 unswept 0 variations 1 live 0 held 0 frames 5 durable 5 applied 0 redo 0\n",
+        0,
+    ),
+    // the lines of the sweeper and of the numbers have one word, in lower case
+    (
+        false,
+        "run",
+        "sweeper\nsweeper \nstat\n",
+        "opened commits 2 rows 1 redone 5\nidle\nline 2: not a command\n",
+        2,
+    ),
+    (
+        false,
+        "run",
+        "Sweeper\n",
+        "opened commits 2 rows 1 redone 5\nline 1: not a command\n",
+        2,
+    ),
+    (
+        false,
+        "run",
+        "a sweeper\n",
+        "opened commits 2 rows 1 redone 5\nline 1: not a command\n",
+        2,
+    ),
+    (
+        false,
+        "run",
+        "STAT\n",
+        "opened commits 2 rows 1 redone 5\nline 1: not a command\n",
+        2,
+    ),
+    (
+        false,
+        "run",
+        "sweeper\nstat 1\n",
+        "opened commits 2 rows 1 redone 5\nidle\nline 2: not a command\n",
+        2,
     ),
     // rows are found by their tags as a snapshot has them
     (true, "make 1 64", "", "made 1 64\n", 0),

@@ -81,6 +81,16 @@ writer 1
 Writer
 a writer
 drain\x20
+sweeper\x20
+sweeper 1
+Sweeper
+a sweeper
+sweepers
+stat\x20
+\x20stat
+stat 1
+STAT
+a stat
 stats
 peek 1 01
 a peek 1 0

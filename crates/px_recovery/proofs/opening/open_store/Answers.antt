@@ -1,6 +1,6 @@
 use Rattle.std.proofs.Common.{ap, ◌∙◌}
 use Rattle.px_cell_standing.specs.Found.{machine_of}
-use Rattle.px_core.specs.Core.{frames_of}
+use Rattle.px_core.specs.Core.{durable_of, frames_of}
 use Rattle.px_recovery.proofs.Again.{settles_later}
 use Rattle.px_recovery.proofs.Quiet.{told_stays}
 use Rattle.px_recovery.proofs.Refusals.{no_room_found}
@@ -27,6 +27,7 @@ returns-in-Ok-clause-stored g c t found on =
     record {
       report_is = c.over.ensures.report ∙ begins.report_is;
       frames = ap (λ core. frames_of core) c.over.ensures.core ∙ begins.frames;
+      durable = ap (λ core. durable_of core) c.over.ensures.core ∙ begins.durable;
       works = c.over.ensures.works (machine_of found) begins.life begins.restart begins.marks begins.may;
     }
 
